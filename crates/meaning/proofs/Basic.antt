@@ -1,0 +1,6 @@
+-- Tests, decisions and fixed points.
+pub mod Booleans
+pub mod Bounded
+pub mod Lists
+pub mod Decides
+pub mod Rounds

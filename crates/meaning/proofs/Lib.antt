@@ -1,0 +1,9 @@
+pub mod Basic
+pub mod File
+pub mod Meaning
+pub mod Marks
+pub mod Classes
+pub mod Merged
+pub mod Verdict
+pub mod Demands
+pub mod Cases

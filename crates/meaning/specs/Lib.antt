@@ -1,0 +1,26 @@
+-- What a reader must believe, in the order of document 01.
+pub mod Tests
+-- The instrument file
+pub mod Table
+pub mod Formula
+pub mod Nodes
+pub mod Instrument
+-- Meaning
+pub mod Paths
+pub mod Truth
+pub mod Combination
+pub mod Index
+-- Marks
+pub mod View
+pub mod Marks
+-- Classes
+pub mod Relation
+pub mod Classes
+-- Merged tables
+pub mod Merged
+-- Verdict and listing
+pub mod Verdict
+-- Bench cases
+pub mod Cases
+-- The same as functions that compute; what they compute is proved to be the above.
+pub mod Reference

@@ -1,0 +1,57 @@
+-- A formula as the file lists it: nodes whose operands are numbers of earlier nodes (document 01, The instrument file).
+use mathlib.Core.List.{List}
+use lib.ListN.{getD}
+use Prim.Native.Nat.{ℕ, zero, suc, _<_}
+use Rattle.meaning.specs.Formula.{Formula}
+
+pub data Node (A : Type 0) : Type 0 where
+  top : Node A
+  atom : A → Node A
+  neg : ℕ → Node A
+  or : ℕ → ℕ → Node A
+  ex : ℕ → Node A
+  eg : ℕ → Node A
+  eu : ℕ → ℕ → Node A
+
+-- node k is an operand
+pub data Operand {A : Type 0} (k : ℕ) : Node A → Type 0 where
+  of-neg : Operand k (neg k)
+  of-or-l : {j : ℕ} → Operand k (or k j)
+  of-or-r : {j : ℕ} → Operand k (or j k)
+  of-ex : Operand k (ex k)
+  of-eg : Operand k (eg k)
+  of-eu-l : {j : ℕ} → Operand k (eu k j)
+  of-eu-r : {j : ℕ} → Operand k (eu j k)
+
+-- the formula of a node, from its operands' formulas
+abbrev pub formulaOf : {A : Type 0} → Node A → (ℕ → Formula A) → Formula A
+formulaOf top f = Formula.top
+formulaOf (atom a) f = Formula.atom a
+formulaOf (neg i) f = Formula.neg (f i)
+formulaOf (or i j) f = Formula.or (f i) (f j)
+formulaOf (ex i) f = Formula.ex (f i)
+formulaOf (eg i) f = Formula.eg (f i)
+formulaOf (eu i j) f = Formula.eu (f i) (f j)
+
+module _ {A : Type 0} (nodes : List (Node A)) where
+  abbrev pub nodeAt : ℕ → Node A
+  nodeAt k = getD nodes k top
+
+  -- every operand is an earlier node
+  abbrev pub Earlier : Type 0
+  Earlier = (k i : ℕ) → Operand i (nodeAt k) → i < k
+
+  -- node k unfolded so many levels deep
+  abbrev pub unfolded : ℕ → ℕ → Formula A
+  unfolded zero k = Formula.top
+  unfolded (suc d) k = formulaOf (nodeAt k) (unfolded d)
+
+  -- The formula of node k. Where operands are earlier nodes k + 1 levels reach them all (proofs/File/Nodes, formula-at); a shared node
+  -- stands several times in the tree.
+  abbrev pub formulaAt : ℕ → Formula A
+  formulaAt k = unfolded (suc k) k
+
+  -- node j is node k or stands under it, through operands
+  pub data Beneath (j : ℕ) : ℕ → Type 0 where
+    itself : Beneath j j
+    through : {i k : ℕ} → Operand i (nodeAt k) → Beneath j i → Beneath j k

@@ -1,0 +1,84 @@
+// Sets of states as machine words: state t is in the set w where bit t of w is 1. Each contract equates the result with a definition of
+// specs/Sets.antt; what that definition means for membership is proved once, for every width, in proofs/Sets.antt.
+ghost use mathlib.Core.Path.{_≡_};
+ghost use mathlib.Core.Bool.{Bool};
+ghost use Prim.Native.Nat.{ℕ, _≤_, _<_};
+ghost use lib.Dec.{eqb};
+ghost use Rattle.words.specs.Sets as sets;
+
+// Whether t is in w.
+pub fn member(w: u32, t: u32) -> bool
+    requires { ⌜ t < 32 ⌝ }
+    ensures { λ r. ⌜ r ≡ sets.has w t ⌝ }
+{
+    (w >> t) % 2 == 1
+}
+
+// w and t besides.
+pub fn insert(w: u32, t: u32) -> u32
+    requires { ⌜ t < 32 ⌝ }
+    ensures { λ r. ⌜ r ≡ sets.insert w t ⌝ }
+{
+    w | (1u32 << t)
+}
+
+// What is in a or in b.
+pub fn union(a: u32, b: u32) -> u32
+    ensures { λ r. ⌜ r ≡ sets.union a b ⌝ }
+{
+    a | b
+}
+
+// What is in a and in b.
+pub fn intersection(a: u32, b: u32) -> u32
+    ensures { λ r. ⌜ r ≡ sets.intersection a b ⌝ }
+{
+    a & b
+}
+
+// What is below s.
+pub fn below(s: u32) -> u32
+    requires { ⌜ s ≤ 32 ⌝ }
+    ensures { λ r. ⌜ r ≡ sets.below s ⌝ }
+{
+    if s == 32 {
+        return 4294967295;
+    }
+    (1u32 << s) - 1
+}
+
+// What is below s and not in w.
+pub fn complement(w: u32, s: u32) -> u32
+    requires { ⌜ s ≤ 32 ⌝ }
+    ensures { λ r. ⌜ r ≡ sets.complement s w ⌝ }
+{
+    below(s) & !w
+}
+
+// Whether everything in a is in b.
+pub fn subset(a: u32, b: u32) -> bool
+    ensures { λ r. ⌜ r ≡ sets.subset a b ⌝ }
+{
+    a & b == a
+}
+
+// Whether nothing is in w.
+pub fn empty(w: u32) -> bool
+    ensures { λ r. ⌜ r ≡ sets.empty w ⌝ }
+{
+    w == 0
+}
+
+// The lowest member, 32 if there is none.
+pub fn lowest(w: u32) -> u32
+    ensures { λ r. ⌜ r ≡ sets.lowest 32 w ⌝ }
+{
+    u32::trailing_zeros(w)
+}
+
+// How many members there are.
+pub fn size(w: u32) -> u32
+    ensures { λ r. ⌜ r ≡ sets.size 32 w ⌝ }
+{
+    u32::count_ones(w)
+}
