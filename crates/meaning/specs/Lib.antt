@@ -5,6 +5,7 @@ pub mod Table
 pub mod Formula
 pub mod Nodes
 pub mod Instrument
+pub mod File
 -- Meaning
 pub mod Paths
 pub mod Truth

@@ -170,13 +170,13 @@ complement-is k s w l p =
     ap (λ d. eqb d 1) e ∙ (flip-test (digit w t) (digit-lt w t) ∙ sym (has-built s (λ t. not (has w t)) t h)))
 
 pub subset-out : (a b : ℕ) → T (subset a b) → (t : ℕ) → T (has a t) → T (has b t)
-unfolding subset
+unfolding subset intersection
 subset-out a b h t i =
     let e : digit (bitAnd a b) t ≡ digit a t = ap (λ w. digit w t) (eqb→eq (bitAnd a b) a h) in
     one-has b t (omega (arith, e, digit-and a b t, has-one a t i, digit-lt b t))
 
 pub subset-in : (k a b : ℕ) → a < 2 ^ k → ((t : ℕ) → t < k → T (has a t) → T (has b t)) → T (subset a b)
-unfolding subset
+unfolding subset intersection
 subset-in k a b p h = subst (λ z. T (eqb z a)) (sym e) (eqb-refl a)
   where
     inside : (t : ℕ) → t < k → digit a t ≤ digit b t

@@ -39,7 +39,7 @@ complement s w = built s (λ t. not (has w t))
 
 -- everything in a is in b
 unfoldable pub subset : ℕ → ℕ → Bool
-subset a b = eqb (bitAnd a b) a
+subset a b = eqb (intersection a b) a
 
 -- nothing is in w
 unfoldable pub empty : ℕ → Bool

@@ -59,7 +59,7 @@ pub fn complement(w: u32, s: u32) -> u32
 pub fn subset(a: u32, b: u32) -> bool
     ensures { λ r. ⌜ r ≡ sets.subset a b ⌝ }
 {
-    a & b == a
+    intersection(a, b) == a
 }
 
 // Whether nothing is in w.

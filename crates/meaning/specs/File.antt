@@ -1,0 +1,4 @@
+-- The grammar of the instrument file.
+pub mod Parser
+pub mod Number
+pub mod Grammar
