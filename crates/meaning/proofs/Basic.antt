@@ -4,3 +4,4 @@ pub mod Bounded
 pub mod Lists
 pub mod Decides
 pub mod Rounds
+pub mod Equivalence

@@ -11,12 +11,12 @@ use native.Mathlib.Omega.{arith}
 use Prim.Native.Nat.{_%_, _<_, _^_, _≤_, suc, ℕ}
 use Rattle.words.proofs.Members.{has-lt}
 use Rattle.words.specs.Sets.{built, digit, has}
-use Rattle.meaning.specs.Cases.{Case, Fact, Holds, Means, RootClasses, WordOf, Writes, cases, classes, combinations, fail, fullWords}
-use Rattle.meaning.specs.Cases.{mergedOf, mergedWords, pass, verdict}
+use Rattle.meaning.specs.Cases.{Case, CaseHolds, Fact, Means, RootClasses, WordOf, Writes, cases, classes, combinations, fail}
+use Rattle.meaning.specs.Cases.{fullWords, mergedOf, mergedWords, pass, verdict}
 use Rattle.meaning.specs.Classes.{classNumber}
-use Rattle.meaning.specs.Combination.{State, Truth, high}
+use Rattle.meaning.specs.Combination.{State, Truth, count, high, index}
+use Rattle.meaning.specs.File.Grammar.{start}
 use Rattle.meaning.specs.Formula.{Formula}
-use Rattle.meaning.specs.Index.{count, index}
 use Rattle.meaning.specs.Instrument.{Accepted, Instrument, IsStart, WellFormed, components, rootFormula, rootNode, table}
 use Rattle.meaning.specs.Marks.{Fail, Pass}
 use Rattle.meaning.specs.Merged.{MergedTruth, classNumbers, mergedCount, mergedIndex, mergedSizes, mergedTables}
@@ -279,12 +279,12 @@ module _ (I : Instrument) where
 abbrev caseB : Case → Bool
 caseB r = acceptedB (r .instrument) && factB (r .instrument) (r .fact)
 
-case-means : (r : Case) → T (caseB r) → Holds r
+case-means : (r : Case) → T (caseB r) → CaseHolds r
 case-means r h =
     let a = accepted-sound (r .instrument) (search conj) in
     (a, means (r .instrument) a (r .fact) (search conj))
 
 -- all the starred cases
-pub starred : All Holds cases
+pub starred : All CaseHolds cases
 unfolding digit built
-starred = all-sound Holds caseB case-means cases tt
+starred = all-sound CaseHolds caseB case-means cases tt

@@ -5,10 +5,9 @@ use mathlib.Core.Bool.{Bool}
 use mathlib.Core.List.{List}
 use lib.Dec.{T, leb, leb→le, le→leb}
 use Prim.Native.Nat.{_<_, _≤_, ℕ}
-use Rattle.meaning.specs.Classes.{ClassNames, Equivalence}
-use Rattle.meaning.specs.Combination.{State, Truth}
+use Rattle.meaning.specs.Classes.{ClassNames}
+use Rattle.meaning.specs.Combination.{State, Truth, count, index}
 use Rattle.meaning.specs.Formula.{Formula}
-use Rattle.meaning.specs.Index.{count, index}
 use Rattle.meaning.specs.Instrument.{WellFormed}
 use Rattle.meaning.specs.Marks.{Fail, Pass}
 use Rattle.meaning.specs.Merged.{MergedOf, MergedTruth, mergedCount, mergedIndex, mergedSizes, mergedTables}
@@ -22,6 +21,7 @@ use Rattle.meaning.specs.Table.{Table}
 use Rattle.meaning.specs.Verdict.{HasFail, HasPass, Right}
 use Rattle.meaning.specs.View.{View}
 use Rattle.meaning.proofs.Basic.Bounded.{any-iff}
+use Rattle.meaning.proofs.Basic.Equivalence.{Equivalence}
 use Rattle.meaning.proofs.Classes.Described.{Described, described, root-names}
 use Rattle.meaning.proofs.Classes.Equivalence.{rel-equiv, rel-under}
 use Rattle.meaning.proofs.File.Formulas.{Under}

@@ -7,3 +7,5 @@ pub mod Merged
 pub mod Verdict
 pub mod Demands
 pub mod Cases
+pub mod Counterexamples
+pub mod Claims

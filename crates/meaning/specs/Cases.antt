@@ -10,8 +10,7 @@ use Rattle.meaning.specs.Tests.{All}
 use Rattle.meaning.specs.Table.{Table, fromWords}
 use Rattle.meaning.specs.Nodes.{Node, top, atom, neg, ex, eg, eu, formulaAt, Beneath}
 use Rattle.meaning.specs.Instrument.{Instrument, components, table, rootNode, rootFormula, Accepted}
-use Rattle.meaning.specs.Combination.{State, high, Truth}
-use Rattle.meaning.specs.Index.{count, index}
+use Rattle.meaning.specs.Combination.{State, high, Truth, count, index}
 use Rattle.meaning.specs.View.{View, wholeWords}
 use Rattle.meaning.specs.Marks.{Pass, Fail}
 use Rattle.meaning.specs.Relation.{Rel}
@@ -130,8 +129,8 @@ abbrev row : Instrument → Fact → Case
 row I f = record { instrument = I; fact = f }
 
 -- a row holds: the instrument is one that a reader accepts, and the fact is so
-abbrev pub Holds : Case → Type 0
-Holds r = Accepted (r .instrument) × Means (r .instrument) (r .fact)
+abbrev pub CaseHolds : Case → Type 0
+CaseHolds r = Accepted (r .instrument) × Means (r .instrument) (r .fact)
 
 -- The starred cases. Rows beside them: the chain's listing (classes, combinations), which merged state a start has, no starts, bits of nodes
 -- that are not under the root, and states that differ only in a signal that the root does not name.

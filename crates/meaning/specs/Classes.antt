@@ -4,12 +4,6 @@ use lib.Dec.{eqb}
 use Prim.Native.Nat.{ℕ, zero, suc, _+_, _≤_, _<_}
 use Rattle.meaning.specs.Table.{Table}
 
--- an equivalence of the states
-pub record Equivalence (t : Table) (E : ℕ → ℕ → Type 0) : Type 0 where
-  pub refl : (x : ℕ) → x < t .states → E x x
-  pub symm : (x y : ℕ) → x < t .states → y < t .states → E x y → E y x
-  pub trans : (x y z : ℕ) → x < t .states → y < t .states → z < t .states → E x y → E y z → E x z
-
 -- cls gives each state the name of its class: the lowest state that it is equivalent to
 pub record ClassNames (t : Table) (E : ℕ → ℕ → Type 0) (cls : ℕ → ℕ) : Type 0 where
   pub member : (x : ℕ) → x < t .states → E x (cls x)

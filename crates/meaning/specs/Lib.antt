@@ -8,9 +8,7 @@ pub mod Instrument
 pub mod File
 -- Meaning
 pub mod Paths
-pub mod Truth
 pub mod Combination
-pub mod Index
 -- Marks
 pub mod View
 pub mod Marks

@@ -46,8 +46,7 @@ module _ {A : Type 0} (nodes : List (Node A)) where
   unfolded zero k = Formula.top
   unfolded (suc d) k = formulaOf (nodeAt k) (unfolded d)
 
-  -- The formula of node k. Where operands are earlier nodes k + 1 levels reach them all (proofs/File/Nodes, formula-at); a shared node
-  -- stands several times in the tree.
+  -- the formula of node k: where operands are earlier nodes, k + 1 levels reach them all (proofs/File/Nodes, formula-at)
   abbrev pub formulaAt : ℕ → Formula A
   formulaAt k = unfolded (suc k) k
 

@@ -18,17 +18,11 @@ pub data Stage : Type 0 where
   marks : Stage
   merged : Stage
 
--- a verdict with its stage; a start marked PASS and FAIL; a merged combination that is too large
+-- a verdict with its stage; number 14, a start marked PASS and FAIL; number 12, a merged combination that is too large
 pub data Answer : Type 0 where
   judged : Verdict → Stage → Answer
   clash : Answer
   oversized : Answer
-
--- document 01's number of each answer, 0 where it is a verdict
-abbrev pub refusal : Answer → ℕ
-refusal (judged v g) = 0
-refusal clash = 14
-refusal oversized = 12
 
 -- Where P, F and R say that a start has a PASS state, has a FAIL state, and satisfies the root.
 module _ {X : Type 0} (P F R : X → Type 0) (starts : List X) where

@@ -1,15 +1,15 @@
 -- What the definitions of specs/Sets say of membership: laws over ℕ, for every width.
 use mathlib.Core.Path.{_≡_, refl, sym, subst, ap, ap₂, _∙_}
-use mathlib.Core.Logic.{_⊎_, inl, inr, _≢_, _↔_}
+use mathlib.Core.Logic.{_≢_}
 use mathlib.Core.Bool.{Bool, true, false, not, _&&_, _||_, cond}
-use Prim.Native.Nat.{ℕ, zero, suc, _+_, _-_, _*_, _/_, _%_, _^_, min, max, _≤_, _<_}
-use native.Mathlib.Nat.{le-refl, lt-of-lt-of-le, not-suc-le-zero}
+use Prim.Native.Nat.{ℕ, zero, suc, _+_, _-_, _/_, _%_, _^_, min, max, _≤_, _<_}
+use native.Mathlib.Nat.{not-suc-le-zero}
 use native.Mathlib.Decide.{decLt, ℕ-discrete}
 use native.Mathlib.Omega.{arith}
 use lib.Dec.{T, lit<, eqb, eqb→eq, eqb-refl}
-use lib.Bits.{bitAnd, bitOr, and-le-l, or-lt, and-lt}
+use lib.Bits.{bitAnd, bitOr, and-le-l, or-lt}
 use lib.Count.{ones, ones-step, trailingZeros, under}
-use lib.Pow.{pow-pos, pow-mono, pow-lt}
+use lib.Pow.{pow-pos, pow-lt}
 use Rattle.words.specs.Sets.{digit, has, built, insert, union, intersection, below, complement, subset, empty, lowest, size}
 use Rattle.words.proofs.Digits.{digit-lt, digit-zero, digit-suc, digit-and, digit-or, digit-past, digit-none, same-digits, double}
 use Rattle.words.proofs.Digits.{power-here, power-elsewhere, digit-above, digit-top, digit-ones, digit-not}

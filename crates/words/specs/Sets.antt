@@ -1,5 +1,5 @@
 -- Sets of small numbers as words, for every width: t is in w where digit t of w is 1 (document 01: "bit t for state t").
-use mathlib.Core.Bool.{Bool, true, not, cond}
+use mathlib.Core.Bool.{Bool, not, cond}
 use lib.Bits.{bitAnd, bitOr}
 use lib.Dec.{eqb}
 use Prim.Native.Nat.{ℕ, zero, suc, _+_, _-_, _/_, _%_, _^_}

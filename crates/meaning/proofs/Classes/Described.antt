@@ -2,7 +2,7 @@
 use mathlib.Core.Path.{_≡_}
 use mathlib.Core.Logic.{_↔_}
 use Prim.Native.Nat.{_<_, ℕ}
-use Rattle.meaning.specs.Classes.{ClassNames, Equivalence}
+use Rattle.meaning.specs.Classes.{ClassNames}
 use Rattle.meaning.specs.Formula.{Formula, eg, eu}
 use Rattle.meaning.specs.Marks.{EgSet, EuSet, Fail, Inside, Pass}
 use Rattle.meaning.specs.Reference.Marks.{failB, passB}
@@ -11,6 +11,7 @@ use Rattle.meaning.specs.Relation.{InsidePairs, KeepsRule, LargestRelati
 use Rattle.meaning.specs.Table.{Table}
 use Rattle.meaning.specs.View.{View}
 use Rattle.meaning.proofs.Basic.Decides.{Decides, DecidesPairs, both-decide}
+use Rattle.meaning.proofs.Basic.Equivalence.{Equivalence}
 use Rattle.meaning.proofs.Classes.Equivalence.{fail-back, pass-back, rel-decides, rel-equiv}
 use Rattle.meaning.proofs.Classes.Largest.{relation-in, relation-out}
 use Rattle.meaning.proofs.Classes.Names.{name-related, names-lowest, related-name}

@@ -2,7 +2,7 @@
 -- the rule apart by the marks, which related states share.
 use mathlib.Core.Path.{refl, subst}
 use Prim.Native.Nat.{_<_, ℕ}
-use Rattle.meaning.specs.Classes.{Equivalence}
+use Rattle.meaning.specs.File.Grammar.{whole}
 use Rattle.meaning.specs.Formula.{Formula, atom, eg, eu, ex, neg, or, top}
 use Rattle.meaning.specs.Marks.{Fail, Pass}
 use Rattle.meaning.specs.Reference.Relation.{relB}
@@ -10,6 +10,7 @@ use Rattle.meaning.specs.Relation.{Rel, Rule}
 use Rattle.meaning.specs.Table.{Table, Total}
 use Rattle.meaning.specs.View.{View}
 use Rattle.meaning.proofs.Basic.Decides.{DecidesPairs, both-decide}
+use Rattle.meaning.proofs.Basic.Equivalence.{Equivalence}
 use Rattle.meaning.proofs.Classes.Largest.{relation-decides, relation-out, relation-refl, relation-sym, relation-trans}
 use Rattle.meaning.proofs.Classes.Rules.{Through, rule-decides, rule-flip, rule-map, rule-refl, rule-trans}
 use Rattle.meaning.proofs.Classes.SameMarks.{fail-same, pass-same}

@@ -3,12 +3,13 @@ use mathlib.Core.Path.{_≡_, subst, sym}
 use mathlib.Core.Bool.{Bool}
 use native.Mathlib.Omega.{arith}
 use Prim.Native.Nat.{_<_, _≤_, ℕ}
-use Rattle.meaning.specs.Classes.{ClassNames, Equivalence}
+use Rattle.meaning.specs.Classes.{ClassNames}
 use Rattle.meaning.specs.Reference.Relation.{className}
 use Rattle.meaning.specs.Reference.Tests.{lowest}
 use Rattle.meaning.specs.Table.{Table}
 use Rattle.meaning.proofs.Basic.Bounded.{any-in, lowest-hit, lowest-le}
 use Rattle.meaning.proofs.Basic.Decides.{DecidesPairs}
+use Rattle.meaning.proofs.Basic.Equivalence.{Equivalence}
 
 module _ (t : Table) (E : ℕ → ℕ → Type 0) (eqv : Equivalence t E) where
   pub names-lowest : (e : ℕ → ℕ → Bool) → DecidesPairs (t .states) e E → ClassNames t E (className t e)

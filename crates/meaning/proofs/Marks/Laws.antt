@@ -5,11 +5,11 @@ use mathlib.Core.Logic.{_≢_}
 use mathlib.Core.Bool.{Bool}
 use lib.Dec.{T}
 use Prim.Native.Nat.{_<_, ℕ}
-use Rattle.meaning.specs.Classes.{Equivalence}
 use Rattle.meaning.specs.Combination.{State}
 use Rattle.meaning.specs.Table.{Table, Total, drives, owns}
 use Rattle.meaning.specs.Tests.{listed}
 use Rattle.meaning.specs.View.{View}
+use Rattle.meaning.proofs.Basic.Equivalence.{Equivalence}
 
 -- The table has no dead end; at atoms PASS and FAIL exclude each other, and the relation is an equivalence that keeps them.
 pub record Lawful {A : Type 0} (t : Table) (κ : View A) : Type 0 where

@@ -28,6 +28,10 @@ words-each F G π (inr (j, f, u)) i = elim (decLt j i) [ yes l ↦ inr (j, l, f,
 pub each-words : (F G : ℕ → Type 0) (π : ℕ → ℕ) → AtEach F G π → (Words F G π → ⊥) → ⊥
 each-words F G π h n = n (inl (λ i. elim (h i) [ inl u ↦ u i (omega arith) | inr (j, l, f, u) ↦ absurd (n (inr (j, f, u))) ]))
 
+-- for a reader who grants excluded middle, the definition is document 01's words
+pub each-classical : ((P : Type 0) → P ⊎ (P → ⊥)) → (F G : ℕ → Type 0) (π : ℕ → ℕ) → AtEach F G π → Words F G π
+each-classical lem F G π h = elim (lem (Words F G π)) [ inl w ↦ w | inr n ↦ absurd (each-words F G π h n) ]
+
 -- the weaker form that is used: G at each step, or F before
 abbrev pub Weak : (ℕ → Type 0) → (ℕ → Type 0) → (ℕ → ℕ) → Type 0
 Weak F G π = (i : ℕ) → G (π i) ⊎ ((j : ℕ) × (j < i) × F (π j))

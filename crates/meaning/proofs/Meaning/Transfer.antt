@@ -2,7 +2,7 @@
 use mathlib.Core.Logic.{_↔_, _⊎_, inl, inr, ⊎-map}
 use Rattle.meaning.specs.Combination.{Step}
 use Rattle.meaning.specs.Formula.{Formula, atom, eg, eu, ex, neg, or, top}
-use Rattle.meaning.specs.Truth.{Holds}
+use Rattle.meaning.specs.Paths.{Holds}
 use Rattle.meaning.proofs.File.Formulas.{Follows, Part, after-eg, after-eu, after-ex, of-eg, of-eu-l, of-eu-r, of-neg, of-or-l}
 use Rattle.meaning.proofs.File.Formulas.{of-or-r}
 use Rattle.meaning.proofs.Meaning.Paths.{Reach, always-now, carry-always, carry-reach, next-in, next-out, until-in, until-out}

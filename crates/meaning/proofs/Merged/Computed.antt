@@ -6,9 +6,8 @@ use lib.Dec.{T, T-not, not-T}
 use native.Mathlib.Omega.{arith}
 use Prim.Native.Nat.{_<_, ℕ}
 use Rattle.meaning.specs.Classes.{lowestOf}
-use Rattle.meaning.specs.Combination.{State, Truth}
+use Rattle.meaning.specs.Combination.{State, Truth, count, index}
 use Rattle.meaning.specs.Formula.{Formula}
-use Rattle.meaning.specs.Index.{count, index}
 use Rattle.meaning.specs.Marks.{Fail}
 use Rattle.meaning.specs.Merged.{MergedTruth, classNumbers, guard, lowestStates, mergedCount, mergedIndex, mergedSizes, mergedTables}
 use Rattle.meaning.specs.Reference.Marks.{failB}

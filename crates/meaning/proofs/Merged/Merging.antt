@@ -1,7 +1,7 @@
 -- An instrument whose states are merged by equivalences E with class names cls; what every proof about it uses of one component.
 use mathlib.Core.Bool.{Bool}
 use Prim.Native.Nat.{_<_, ℕ}
-use Rattle.meaning.specs.Classes.{ClassNames, Equivalence, classNumber, lowestOf}
+use Rattle.meaning.specs.Classes.{ClassNames, classNumber, lowestOf}
 use Rattle.meaning.specs.Combination.{State, Truth}
 use Rattle.meaning.specs.Formula.{Formula, ex}
 use Rattle.meaning.specs.Marks.{Fail, Pass}
@@ -9,6 +9,7 @@ use Rattle.meaning.specs.Merged.{lowestStates, mergedTables}
 use Rattle.meaning.specs.Relation.{InsidePairs, Rel}
 use Rattle.meaning.specs.Table.{Successor, Table, Total}
 use Rattle.meaning.specs.View.{View}
+use Rattle.meaning.proofs.Basic.Equivalence.{Equivalence}
 use Rattle.meaning.proofs.Classes.Equivalence.{fail-back, rel-part, rel-sym, rel-trans}
 use Rattle.meaning.proofs.Classes.SameMarks.{fail-same, pass-same}
 use Rattle.meaning.proofs.File.Formulas.{Follows, Part, after-eg, after-eu, after-ex, of-ex}

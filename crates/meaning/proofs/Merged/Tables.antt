@@ -3,12 +3,13 @@ use mathlib.Core.Path.{_≡_, subst, sym}
 use mathlib.Core.Bool.{Bool, _&&_}
 use lib.Dec.{T, eqb, eqb-refl, eqb→eq}
 use Prim.Native.Nat.{_<_, ℕ}
-use Rattle.meaning.specs.Classes.{ClassNames, Equivalence, classNumber, lowestOf}
+use Rattle.meaning.specs.Classes.{ClassNames, classNumber, lowestOf}
 use Rattle.meaning.specs.Merged.{mergedTable}
 use Rattle.meaning.specs.Table.{Successor, Table, Total}
 use Rattle.meaning.specs.Tests.{anyBelow}
 use Rattle.meaning.proofs.Basic.Booleans.{conj}
 use Rattle.meaning.proofs.Basic.Bounded.{any-in, any-out}
+use Rattle.meaning.proofs.Basic.Equivalence.{Equivalence}
 use Rattle.meaning.proofs.Classes.Names.{name-lt, name-name, name-related, related-name}
 use Rattle.meaning.proofs.Merged.Numbers.{lowest-lt, lowest-number, number-lt}
 

@@ -1,0 +1,151 @@
+-- What is proved of document 01, in the order of the demands: over its atoms (signals), what it compares (whole output words) and the classes
+-- of its one root. The general theorems behind it are those of Demands, Marks/Partners and Classes/Described.
+use mathlib.Core.Path.{_≡_, refl}
+use mathlib.Core.Logic.{_↔_, inl, inr}
+use mathlib.Core.List.{List, [], _∷_}
+use lib.Dec.{T}
+use Prim.Native.Nat.{_<_, _≤_, ℕ}
+use Rattle.meaning.specs.Classes.{ClassNames}
+use Rattle.meaning.specs.Combination.{State, Truth, count, high, index}
+use Rattle.meaning.specs.Formula.{Formula}
+use Rattle.meaning.specs.Instrument.{Accepted, Instrument, WellFormed, components, rootFormula, rootNode, table}
+use Rattle.meaning.specs.Marks.{Fail, Pass}
+use Rattle.meaning.specs.Merged.{MergedOf, MergedTruth, lowestStates, mergedCount, mergedIndex, mergedSizes, mergedTables}
+use Rattle.meaning.specs.Nodes.{Beneath, formulaAt}
+use Rattle.meaning.specs.Reference.Merged.{lookupB, mergedB}
+use Rattle.meaning.specs.Reference.Truth.{truthB}
+use Rattle.meaning.specs.Reference.Verdict.{rootClasses, verdictB}
+use Rattle.meaning.specs.Relation.{Rel}
+use Rattle.meaning.specs.Table.{Table}
+use Rattle.meaning.specs.Verdict.{Clash, HasFail, HasPass, Right}
+use Rattle.meaning.specs.View.{View, wholeWords}
+use Rattle.meaning.proofs.Cases.{starred}
+use Rattle.meaning.proofs.Classes.Described.{Described, described}
+use Rattle.meaning.proofs.Counterexamples.{dead-end, guarded, unguarded}
+use Rattle.meaning.proofs.Demands.{described-inside, full-onto, full-way, lookup-paths, marks-inside, merged-bits, merged-index}
+use Rattle.meaning.proofs.Demands.{merged-paths, merged-state, no-clash, root-class-names, root-equivalence, under-kept}
+use Rattle.meaning.proofs.Demands.{verdict-right}
+use Rattle.meaning.proofs.File.Formulas.{Under}
+use Rattle.meaning.proofs.File.Nodes.{beneath-under, formula-at}
+use Rattle.meaning.proofs.Marks.Laws.{Fits}
+use Rattle.meaning.proofs.Marks.Partners.{computed-beside, marks-beside}
+use Rattle.meaning.proofs.Marks.Signals.{rel-signal, signals-local, whole-fit}
+use Rattle.meaning.proofs.Marks.Stays.{AtEach, Words, each-classical, each-words, words-each}
+use Rattle.meaning.proofs.Meaning.Index.{index-lt, index-part, part-index, part-lt}
+use Rattle.meaning.proofs.Verdict.{right-unique}
+
+-- DEMAND 3, marks beside partners: marks-beside by the meaning, computed-beside of what is computed
+pub use Rattle.meaning.proofs.Marks.Partners.{marks-beside, computed-beside}
+-- what Described says of one table: sets largest and least, relations largest, names of classes
+pub use Rattle.meaning.proofs.Classes.Described.{Described, described}
+-- related for a signal: foreign, or the same level
+pub use Rattle.meaning.proofs.Marks.Signals.{rel-signal}
+-- FAIL of EU, between document 01's words and the form used
+pub use Rattle.meaning.proofs.Marks.Stays.{Words, AtEach, words-each, each-words, each-classical}
+-- nodes: each node's formula from its operands' formulas; what stands under the root
+pub use Rattle.meaning.proofs.File.Nodes.{formula-at, beneath-under}
+-- the index of a combined state and back
+pub use Rattle.meaning.proofs.Meaning.Index.{index-lt, part-lt, part-index, index-part}
+-- there is one right answer for a list of starts
+pub use Rattle.meaning.proofs.Verdict.{right-unique}
+-- the starred bench cases
+pub use Rattle.meaning.proofs.Cases.{starred}
+-- what the guard and the promise of no dead end are for
+pub use Rattle.meaning.proofs.Counterexamples.{unguarded, guarded, dead-end}
+
+-- an instrument as the reader accepts it
+module _ (I : Instrument) (accepted : Accepted I) where
+  abbrev n : ℕ
+  n = components I
+
+  abbrev S : ℕ → Table
+  S = table I
+
+  abbrev W : ℕ
+  W = I .signals
+
+  abbrev κ : ℕ → View ℕ
+  κ i = wholeWords (S i)
+
+  abbrev ρ : Formula ℕ
+  ρ = rootFormula I
+
+  abbrev node : ℕ → Formula ℕ
+  node k = formulaAt (I .nodes) k
+
+  abbrev good : WellFormed n S W
+  good = accepted .well-formed
+
+  fits : Fits n S (high n S) κ
+  fits = whole-fit n S W good
+
+  -- the classes at the root
+  abbrev cls : ℕ → ℕ → ℕ
+  cls = rootClasses n S κ ρ
+
+  -- DEMAND 2: the bit computed for node k at the index of a combined state is its truth by paths there
+  pub full-01 : (k : ℕ) (s : State n S) → T (truthB n S W (high n S) (node k) (index n (λ i. S i .states) (s .at))) ↔ Truth n S (high n S) (node k) s
+  full-01 k = full-way n S W good (high n S) (signals-local n S) (node k)
+
+  pub full-index-01 : (x : ℕ) → x < count n (λ i. S i .states) → (s : State n S) × (index n (λ i. S i .states) (s .at) ≡ x)
+  full-index-01 = full-onto n S W good
+
+  -- DEMAND 3: marks, relations and classes of every component are document 01's
+  pub described-01 : (i : ℕ) → i < n → Described (S i) (κ i)
+  described-01 = described-inside n S W good (high n S) κ fits
+
+  pub classes-01 : (i : ℕ) → i < n → ClassNames (S i) (Rel (S i) (κ i) ρ) (cls i)
+  classes-01 = root-class-names n S W good (high n S) κ fits ρ
+
+  -- marks are right in the instrument itself, and no combined state is PASS by one component and FAIL by another, for any node
+  pub marks-01 : (i : ℕ) → i < n → (k : ℕ) (s : State n S)
+      → (Pass (S i) (κ i) (node k) (s .at i) → Truth n S (high n S) (node k) s)
+      × (Fail (S i) (κ i) (node k) (s .at i) → Truth n S (high n S) (node k) s → ⊥)
+  marks-01 i l k = marks-inside n S W good (high n S) κ fits i l (node k)
+
+  pub no-clash-01 : (k : ℕ) (s : State n S) (i j : ℕ) → i < n → j < n → Pass (S i) (κ i) (node k) (s .at i) → Fail (S j) (κ j) (node k) (s .at j) → ⊥
+  no-clash-01 k = no-clash n S W good (high n S) κ fits (node k)
+
+  -- DEMAND 3: for the root and every node under it, guarded truth by paths in the merged combination, at the merged state of a combined
+  -- state, is truth by paths in that combined state on the delivered tables. No bound on the full combination is asked for.
+  pub merged-01 : (k : ℕ) → Beneath (I .nodes) k (rootNode I) → (s : State n S) (c : State n (mergedTables n S cls)) → MergedOf n S cls s c
+      → MergedTruth n S cls κ (high n S) (node k) c ↔ Truth n S (high n S) (node k) s
+  merged-01 k b =
+      merged-paths n S W good (high n S) κ fits (λ i. Rel (S i) (κ i) ρ) (root-equivalence n S W good (high n S) κ fits ρ) cls classes-01 (node k)
+      (under-kept n S W good (high n S) κ fits ρ (node k) (beneath-under (I .nodes) (accepted .earlier) k (rootNode I) b))
+
+  -- a signal's value in a merged state is that of the merged tables' own outputs
+  pub merged-signals-01 : (w : ℕ) (c : ℕ → ℕ) → high n (mergedTables n S cls) w c ≡ high n S w (lowestStates n S cls c)
+  merged-signals-01 w c = refl
+
+  -- every combined state has a merged state; every number below the merged count is the index of one
+  pub merged-state-01 : (s : State n S) → (c : State n (mergedTables n S cls)) × MergedOf n S cls s c
+  merged-state-01 =
+      merged-state n S W good (high n S) κ fits (λ i. Rel (S i) (κ i) ρ) (root-equivalence n S W good (high n S) κ fits ρ) cls classes-01
+
+  pub merged-index-01 : (x : ℕ) → x < mergedCount n S cls → (s : State n S) × (mergedIndex n S cls (s .at) ≡ x)
+  merged-index-01 =
+      merged-index n S W good (high n S) κ fits (λ i. Rel (S i) (κ i) ρ) (root-equivalence n S W good (high n S) κ fits ρ) cls classes-01
+
+  -- the bit computed at the index of a merged state is the guarded truth by paths there
+  pub merged-bits-01 : (k : ℕ) (c : State n (mergedTables n S cls))
+      → T (mergedB n S cls κ (high n S) W (node k) (index n (mergedSizes n S cls) (c .at))) ↔ MergedTruth n S cls κ (high n S) (node k) c
+  merged-bits-01 k =
+      merged-bits n S W good (high n S) κ fits (λ i. Rel (S i) (κ i) ρ) (root-equivalence n S W good (high n S) κ fits ρ) cls classes-01 (node k)
+
+  -- the lookup's answer is the truth by paths of the root in the asked combined state
+  pub lookup-01 : (s : State n S) → T (lookupB n S cls κ (high n S) W ρ (s .at)) ↔ Truth n S (high n S) ρ s
+  lookup-01 =
+      lookup-paths n S W good (high n S) κ fits (λ i. Rel (S i) (κ i) ρ) (root-equivalence n S W good (high n S) κ fits ρ) cls classes-01 ρ
+      (under-kept n S W good (high n S) κ fits ρ ρ Under.itself)
+
+  -- the verdict on combined states is the right one, and is never number 14
+  pub verdict-01 : (ss : List (State n S))
+      → Right (λ s. HasPass n S κ ρ (s .at)) (λ s. HasFail n S κ ρ (s .at)) (Truth n S (high n S) ρ) ss (mergedCount n S cls ≤ 4096)
+      (verdictB n S κ ρ 4096 W (high n S) (λ s. s .at) ss)
+  verdict-01 = verdict-right n S W good (high n S) κ fits ρ 4096 (λ s. s)
+
+  pub never-14 : (ss : List (State n S)) → Clash (λ s. HasPass n S κ ρ (s .at)) (λ s. HasFail n S κ ρ (s .at)) (Truth n S (high n S) ρ) ss → ⊥
+  never-14 [] h = h
+  never-14 (s ∷ ss) (inl (p, f)) = no-clash n S W good (high n S) κ fits ρ s (p .0) (f .0) (p .1) (f .1) (p .2) (f .2)
+  never-14 (s ∷ ss) (inr h) = never-14 ss h
