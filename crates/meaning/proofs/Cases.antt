@@ -10,12 +10,15 @@ use native.Mathlib.Nat.{mod-eq-of-lt, mod-lt}
 use native.Mathlib.Omega.{arith}
 use Prim.Native.Nat.{_%_, _<_, _^_, _≤_, suc, ℕ}
 use Rattle.words.proofs.Members.{has-lt}
-use Rattle.words.specs.Sets.{built, digit, has}
-use Rattle.meaning.specs.Cases.{Case, CaseHolds, Fact, Means, RootClasses, WordOf, Writes, cases, classes, combinations, fail}
-use Rattle.meaning.specs.Cases.{fullWords, mergedOf, mergedWords, pass, verdict}
+use Rattle.words.specs.Sets.{built, digit, has, insert}
+use Rattle.meaning.specs.Cases.{Case, CaseHolds, Fact, Means, Reads, RootClasses, WordOf, Writes, cases, classes, combinations, fail}
+use Rattle.meaning.specs.Cases.{fullWords, mergedOf, mergedWords, pass, refused, verdict}
 use Rattle.meaning.specs.Classes.{classNumber}
 use Rattle.meaning.specs.Combination.{State, Truth, count, high, index}
-use Rattle.meaning.specs.File.Grammar.{start}
+use Rattle.meaning.specs.File.Grammar.{Contents, between, component, instrumentOf, lessThan, named, node, readFile, signal, start}
+use Rattle.meaning.specs.File.Grammar.{whole, withAll}
+use Rattle.meaning.specs.File.Number.{groups}
+use Rattle.meaning.specs.File.Parser.{Got, fault, found, listOf}
 use Rattle.meaning.specs.Formula.{Formula}
 use Rattle.meaning.specs.Instrument.{Accepted, Instrument, IsStart, WellFormed, components, rootFormula, rootNode, table}
 use Rattle.meaning.specs.Marks.{Fail, Pass}
@@ -130,8 +133,8 @@ module _ (I : Instrument) where
   abbrev sizes : ℕ → ℕ
   sizes i = S i .states
 
-  abbrev node : ℕ → Formula ℕ
-  node k = formulaAt (I .nodes) k
+  abbrev formula : ℕ → Formula ℕ
+  formula k = formulaAt (I .nodes) k
 
   -- a start as a combined state
   abbrev stateOf : List ℕ → ℕ → ℕ
@@ -139,15 +142,16 @@ module _ (I : Instrument) where
 
   -- the bits of node k at an index, in the full and in the merged combination
   abbrev fullB : ℕ → ℕ → Bool
-  fullB x k = truthB n S (I .signals) (high n S) (node k) x
+  fullB x k = truthB n S (I .signals) (high n S) (formula k) x
 
   abbrev underB : ℕ → Bool
   underB k = beneathB (I .nodes) (suc (rootNode I)) k (rootNode I)
 
   abbrev bitB : ℕ → ℕ → Bool
-  bitB x k = underB k && mergedB n S cls κ (high n S) (I .signals) (node k) x
+  bitB x k = underB k && mergedB n S cls κ (high n S) (I .signals) (formula k) x
 
   abbrev factB : Fact → Bool
+  factB (refused r) = false
   factB (pass i w) = ltb i n && wordB (S i .states) (passB (S i) (κ i) ρ) w
   factB (fail i w) = ltb i n && wordB (S i .states) (failB (S i) (κ i) ρ) w
   factB (classes i names) = ltb i n && (eqb (length names) (S i .states) && allBelow (S i .states) (λ x. eqb (getD names x 0) (cls i x)))
@@ -173,8 +177,8 @@ module _ (I : Instrument) where
         let l = ltb→lt i n (search conj) in
         (l, word-means (S i .states) b P w (search conj) (λ x k. (d l .sound x k, d l .whole x k)))
 
-    named : (i : ℕ) (ns : List ℕ) → T (factB (classes i ns)) → Means I (classes i ns)
-    named i ns h = (
+    naming : (i : ℕ) (ns : List ℕ) → T (factB (classes i ns)) → Means I (classes i ns)
+    naming i ns h = (
       l,
       eqb→eq (length ns) (S i .states) (search conj),
       record {
@@ -198,9 +202,9 @@ module _ (I : Instrument) where
       eqb→eq (length ws) (count n sizes) (search conj),
       λ s.
           let x = index n sizes (s .at) in
-          word-means (length (I .nodes)) (fullB x) (λ k. Truth n S (high n S) (node k) s) (getD ws x 0)
+          word-means (length (I .nodes)) (fullB x) (λ k. Truth n S (high n S) (formula k) s) (getD ws x 0)
           (at (count n sizes) (length (I .nodes)) fullB ws h x (index-lt n sizes (s .at) (s .ok)))
-          (λ k l. full-way n S (I .signals) good (high n S) (signals-local n S) (node k) s),
+          (λ k l. full-way n S (I .signals) good (high n S) (signals-local n S) (formula k) s),
     )
 
     under-means : (k : ℕ) → T (underB k) ↔ Beneath (I .nodes) k (rootNode I)
@@ -224,15 +228,15 @@ module _ (I : Instrument) where
     )
       where
         True : State n (mergedTables n S cls) → ℕ → Type 0
-        True c k = Beneath (I .nodes) k (rootNode I) × MergedTruth n S cls κ (high n S) (node k) c
+        True c k = Beneath (I .nodes) k (rootNode I) × MergedTruth n S cls κ (high n S) (formula k) c
 
         bit : (c : State n (mergedTables n S cls)) (k : ℕ) → T (bitB (index n (mergedSizes n S cls) (c .at)) k) ↔ True c k
         bit c k =
             let x = index n (mergedSizes n S cls) (c .at) in
             let u = underB k in
-            let v = mergedB n S cls κ (high n S) (I .signals) (node k) x in
+            let v = mergedB n S cls κ (high n S) (I .signals) (formula k) x in
             let t = merged-bits n S (I .signals) good (high n S) κ fits (λ i. Rel (S i) (κ i) ρ)
-            (root-equivalence n S (I .signals) good (high n S) κ fits ρ) cls names (node k) c in (
+            (root-equivalence n S (I .signals) good (high n S) κ fits ρ) cls names (formula k) c in (
               λ b. (under-means k .0 (and-l u v b), t .0 (and-r u v b)),
               λ p. and-in u v (under-means k .1 (p .0)) (t .1 (p .1)),
             )
@@ -253,9 +257,10 @@ module _ (I : Instrument) where
 
     -- the test's answer is the meaning
     means : (f : Fact) → T (factB f) → Means I f
+    means (refused r) h = absurd h
     means (pass i w) h = marked i w (passB (S i) (κ i) ρ) (Pass (S i) (κ i) ρ) h (λ l. pass-decides (S i) (κ i) (good .total i l) ρ)
     means (fail i w) h = marked i w (failB (S i) (κ i) ρ) (Fail (S i) (κ i) ρ) h (λ l. fail-decides (S i) (κ i) (good .total i l) ρ)
-    means (classes i ns) h = named i ns h
+    means (classes i ns) h = naming i ns h
     means (fullWords ws) h = full ws h
     means (mergedWords ws) h = short ws h
     means (mergedOf start x) h = (
@@ -276,15 +281,43 @@ module _ (I : Instrument) where
           (verdict-right n S (I .signals) good (high n S) κ fits ρ 4096 start-state (I .starts)),
     )
 
-abbrev caseB : Case → Bool
-caseB r = acceptedB (r .instrument) && factB (r .instrument) (r .fact)
+-- a fact of a file as it was read
+abbrev refusedB : ℕ → Fact → Bool
+refusedB r (refused q) = eqb q r
+refusedB r (pass i w) = false
+refusedB r (fail i w) = false
+refusedB r (classes i ns) = false
+refusedB r (fullWords ws) = false
+refusedB r (mergedWords ws) = false
+refusedB r (mergedOf start x) = false
+refusedB r (combinations m f) = false
+refusedB r (verdict a) = false
 
-case-means : (r : Case) → T (caseB r) → CaseHolds r
-case-means r h =
-    let a = accepted-sound (r .instrument) (search conj) in
-    (a, means (r .instrument) a (r .fact) (search conj))
+refused-means : (r : ℕ) (f : Fact) → T (refusedB r f) → f ≡ refused r
+refused-means r (refused q) h = ap refused (eqb→eq q r h)
+refused-means r (pass i w) h = absurd h
+refused-means r (fail i w) h = absurd h
+refused-means r (classes i ns) h = absurd h
+refused-means r (fullWords ws) h = absurd h
+refused-means r (mergedWords ws) h = absurd h
+refused-means r (mergedOf start x) h = absurd h
+refused-means r (combinations m f) h = absurd h
+refused-means r (verdict a) h = absurd h
+
+abbrev readsB : Got Contents → Fact → Bool
+readsB (fault r) f = refusedB r f
+readsB (found c e) f = acceptedB (instrumentOf c) && factB (instrumentOf c) f
+
+reads-means : (g : Got Contents) (f : Fact) → T (readsB g f) → Reads g f
+reads-means (fault r) f h = refused-means r f h
+reads-means (found c e) f h =
+    let a = accepted-sound (instrumentOf c) (search conj) in
+    (a, means (instrumentOf c) a f (search conj))
+
+abbrev caseB : Case → Bool
+caseB r = readsB (readFile (r .file)) (r .fact)
 
 -- all the starred cases
 pub starred : All CaseHolds cases
-unfolding digit built
-starred = all-sound CaseHolds caseB case-means cases tt
+unfolding digit built insert withAll groups listOf between lessThan signal component named node whole
+starred = all-sound CaseHolds caseB (λ r. reads-means (readFile (r .file)) (r .fact)) cases tt

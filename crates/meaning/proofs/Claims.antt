@@ -33,7 +33,6 @@ use Rattle.meaning.proofs.Marks.Signals.{rel-signal, signals-local, who
 use Rattle.meaning.proofs.Marks.Stays.{AtEach, Words, each-classical, each-words, words-each}
 use Rattle.meaning.proofs.Meaning.Index.{index-lt, index-part, part-index, part-lt}
 use Rattle.meaning.proofs.Verdict.{right-unique}
-
 -- DEMAND 3, marks beside partners: marks-beside by the meaning, computed-beside of what is computed
 pub use Rattle.meaning.proofs.Marks.Partners.{marks-beside, computed-beside}
 -- what Described says of one table: sets largest and least, relations largest, names of classes

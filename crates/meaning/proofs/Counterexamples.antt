@@ -6,11 +6,12 @@ use lib.Dec.{T, T-not, lit<}
 use native.Mathlib.Omega.{arith}
 use Prim.Native.Nat.{_<_, suc, zero, ℕ}
 use Rattle.words.specs.Sets.{built, digit}
-use Rattle.meaning.specs.Cases.{chainEG}
 use Rattle.meaning.specs.Combination.{State, Step, Truth, high, index}
+use Rattle.meaning.specs.File.Grammar.{nodes}
 use Rattle.meaning.specs.Formula.{Formula, ex, top}
-use Rattle.meaning.specs.Instrument.{Accepted, components, rootFormula, table}
+use Rattle.meaning.specs.Instrument.{Accepted, Instrument, components, rootFormula, table}
 use Rattle.meaning.specs.Merged.{mergedTables}
+use Rattle.meaning.specs.Nodes.{atom, eg}
 use Rattle.meaning.specs.Reference.Truth.{truthB}
 use Rattle.meaning.specs.Reference.Verdict.{rootClasses}
 use Rattle.meaning.specs.Table.{Table, Total, fromWords}
@@ -23,17 +24,27 @@ use Rattle.meaning.proofs.Marks.Signals.{signals-local}
 use Rattle.meaning.proofs.Meaning.Full.{full-at}
 use Rattle.meaning.proofs.Meaning.Index.{index-lt, index-same}
 
+-- the chain of document 01 with EG p
+abbrev chainInstrument : Instrument
+chainInstrument =
+    record {
+      signals = 1;
+      tables = fromWords 3 [] (0 ∷ []) (1 ∷ 1 ∷ 0 ∷ []) (2 ∷ 4 ∷ 4 ∷ []) ∷ [];
+      nodes = atom 0 ∷ eg 0 ∷ [];
+      starts = [];
+    }
+
 abbrev n : ℕ
-n = components chainEG
+n = components chainInstrument
 
 abbrev S : ℕ → Table
-S = table chainEG
+S = table chainInstrument
 
 abbrev κ : ℕ → View ℕ
 κ i = wholeWords (S i)
 
 abbrev ρ : Formula ℕ
-ρ = rootFormula chainEG
+ρ = rootFormula chainInstrument
 
 -- the chain's merged tables for EG p, with classes {0, 1} and {2}
 abbrev M : ℕ → Table
@@ -82,8 +93,8 @@ guarded s h = T-not (truthB n S 1 (high n S) ρ x) (all-out 3 (λ x. not (truthB
     x : ℕ
     x = index n sizes (s .at)
 
-    accepted : Accepted chainEG
-    accepted = accepted-sound chainEG tt
+    accepted : Accepted chainInstrument
+    accepted = accepted-sound chainInstrument tt
 
     bit : T (truthB n S 1 (high n S) ρ x)
     bit = full-way n S 1 (accepted .well-formed) (high n S) (signals-local n S) ρ s .1 h

@@ -1,15 +1,17 @@
--- The starred bench cases of document 01: one table, and what each row says by the meanings (Bench cases; the refusals of files apart).
+-- The starred bench cases of document 01: one table, each row a file's bytes and a fact, and what the fact says by the meanings (Bench cases).
 use mathlib.Core.Path.{_≡_}
 use mathlib.Core.Logic.{_↔_}
-use mathlib.Core.List.{List, [], _∷_}
+use mathlib.Core.List.{List, [], _∷_, _++_}
 use lib.ListN.{getD, length}
 use lib.Dec.{T}
 use Prim.Native.Nat.{ℕ, _≤_, _<_}
 use Rattle.words.specs.Sets.{has}
 use Rattle.meaning.specs.Tests.{All}
-use Rattle.meaning.specs.Table.{Table, fromWords}
-use Rattle.meaning.specs.Nodes.{Node, top, atom, neg, ex, eg, eu, formulaAt, Beneath}
+use Rattle.meaning.specs.Table.{Table}
+use Rattle.meaning.specs.Nodes.{formulaAt, Beneath}
 use Rattle.meaning.specs.Instrument.{Instrument, components, table, rootNode, rootFormula, Accepted}
+use Rattle.meaning.specs.File.Parser.{Got, found, fault}
+use Rattle.meaning.specs.File.Grammar.{Contents, instrumentOf, readFile}
 use Rattle.meaning.specs.Combination.{State, high, Truth, count, index}
 use Rattle.meaning.specs.View.{View, wholeWords}
 use Rattle.meaning.specs.Marks.{Pass, Fail}
@@ -18,9 +20,10 @@ use Rattle.meaning.specs.Classes.{ClassNames}
 use Rattle.meaning.specs.Merged.{mergedTables, mergedSizes, mergedCount, mergedIndex, MergedTruth}
 use Rattle.meaning.specs.Verdict.{Answer, judged, holds, fails, marks, merged, Right, HasPass, HasFail}
 
--- What a case says of an instrument's root. Sets are words, bit t for state t; full and merged words have bit k for node k; a start is its
+-- What a case says of a file: it is refused, or something of its root. Sets are words, bit t for state t; full and merged words have bit k for node k; a start is its
 -- states in component order.
 pub data Fact : Type 0 where
+  refused : (number : ℕ) → Fact
   pass : (component set : ℕ) → Fact
   fail : (component set : ℕ) → Fact
   classes : (component : ℕ) → List ℕ → Fact
@@ -56,6 +59,7 @@ module _ (I : Instrument) where
   Writes start s = (i : ℕ) → i < n → s .at i ≡ getD start i 0
 
   abbrev pub Means : Fact → Type 0
+  Means (refused r) = ⊥
   Means (pass i w) = (i < n) × WordOf (λ x. (x < S i .states) × Pass (S i) (κ i) (rootFormula I) x) w
   Means (fail i w) = (i < n) × WordOf (λ x. (x < S i .states) × Fail (S i) (κ i) (rootFormula I) x) w
   Means (classes i names) = (i < n) × (length names ≡ S i .states) × ClassNames (S i) (Rel (S i) (κ i) (rootFormula I)) (λ x. getD names x 0)
@@ -75,65 +79,52 @@ module _ (I : Instrument) where
       × Right (λ x. HasPass n S κ (rootFormula I) (f x .at)) (λ x. HasFail n S κ (rootFormula I) (f x .at))
       (λ x. Truth n S (high n S) (rootFormula I) (f x)) (I .starts) (mergedCount n S cls ≤ 4096) a
 
--- the chain: states p, p, not p; 0 goes to 1, 1 to 2, 2 stays; start 0
-abbrev pub chain : List (Node ℕ) → Instrument
-chain nodes =
-    record {
-      signals = 1;
-      tables = fromWords 3 [] (0 ∷ []) (1 ∷ 1 ∷ 0 ∷ []) (2 ∷ 4 ∷ 4 ∷ []) ∷ [];
-      nodes = nodes;
-      starts = (0 ∷ []) ∷ [];
-    }
-
-abbrev pub chainEG : Instrument
-chainEG = chain (atom 0 ∷ eg 0 ∷ [])
-
-abbrev pub chainEX : Instrument
-chainEX = chain (atom 0 ∷ ex 0 ∷ [])
-
-abbrev pub chainEU : Instrument
-chainEU = chain (top ∷ atom 0 ∷ neg 1 ∷ eu 0 2 ∷ [])
-
-abbrev pub chainTrue : Instrument
-chainTrue = chain (top ∷ [])
-
--- nodes that are not under the root
-abbrev pub chainSpare : Instrument
-chainSpare = chain (atom 0 ∷ eg 0 ∷ top ∷ [])
-
--- the pair, formula EG of signal 0
-abbrev pub pair : List (List ℕ) → Instrument
-pair starts =
-    record {
-      signals = 2;
-      tables = fromWords 2 (1 ∷ []) (0 ∷ []) (1 ∷ 0 ∷ []) (2 ∷ 1 ∷ 2 ∷ 2 ∷ []) ∷ fromWords 2 [] (1 ∷ []) (1 ∷ 0 ∷ []) (3 ∷ 2 ∷ []) ∷ [];
-      nodes = atom 0 ∷ eg 0 ∷ [];
-      starts = starts;
-    }
-
--- two states that stay, alike in signal 0 and not in signal 1; root signal 0
-abbrev pub lamps : Instrument
-lamps =
-    record {
-      signals = 2;
-      tables = fromWords 2 [] (0 ∷ 1 ∷ []) (0 ∷ 2 ∷ []) (1 ∷ 2 ∷ []) ∷ [];
-      nodes = atom 0 ∷ [];
-      starts = [];
-    }
+-- what a fact says of a file as it was read: the refusal, or an instrument that is as promised and has the fact
+abbrev pub Reads : Got Contents → Fact → Type 0
+Reads (fault r) f = f ≡ refused r
+Reads (found c e) f = Accepted (instrumentOf c) × Means (instrumentOf c) f
 
 pub record Case : Type 0 where
-  pub instrument : Instrument
+  pub file : List ℕ
   pub fact : Fact
 
-abbrev row : Instrument → Fact → Case
-row I f = record { instrument = I; fact = f }
-
--- a row holds: the instrument is one that a reader accepts, and the fact is so
 abbrev pub CaseHolds : Case → Type 0
-CaseHolds r = Accepted (r .instrument) × Means (r .instrument) (r .fact)
+CaseHolds r = Reads (readFile (r .file)) (r .fact)
+
+abbrev row : List ℕ → Fact → Case
+row file f = record { file = file; fact = f }
+
+-- the chain: states p, p, not p; 0 goes to 1, 1 to 2, 2 stays; start 0; with the formula's bytes
+abbrev pub chain : List ℕ → List ℕ
+chain formula = (1 ∷ 1 ∷ 3 ∷ 0 ∷ 1 ∷ 0 ∷ 1 ∷ 1 ∷ 0 ∷ 2 ∷ 4 ∷ 4 ∷ []) ++ (formula ++ (1 ∷ 0 ∷ []))
+
+-- EG p; EX p; true EU not p; true; and true after p and EG p, which are not under it
+abbrev pub chainEG : List ℕ
+chainEG = chain (2 ∷ 1 ∷ 0 ∷ 5 ∷ 0 ∷ [])
+
+abbrev pub chainEX : List ℕ
+chainEX = chain (2 ∷ 1 ∷ 0 ∷ 4 ∷ 0 ∷ [])
+
+abbrev pub chainEU : List ℕ
+chainEU = chain (4 ∷ 0 ∷ 1 ∷ 0 ∷ 2 ∷ 1 ∷ 6 ∷ 0 ∷ 2 ∷ [])
+
+abbrev pub chainTrue : List ℕ
+chainTrue = chain (1 ∷ 0 ∷ [])
+
+abbrev pub chainSpare : List ℕ
+chainSpare = chain (3 ∷ 1 ∷ 0 ∷ 5 ∷ 0 ∷ 0 ∷ [])
+
+-- the pair, formula EG of signal 0, with the bytes of the starts
+abbrev pub pair : List ℕ → List ℕ
+pair starts =
+    (2 ∷ 2 ∷ 2 ∷ 1 ∷ 1 ∷ 1 ∷ 0 ∷ 1 ∷ 0 ∷ 2 ∷ 1 ∷ 2 ∷ 2 ∷ 2 ∷ 0 ∷ 1 ∷ 1 ∷ 1 ∷ 0 ∷ 3 ∷ 2 ∷ 2 ∷ 1 ∷ 0 ∷ 5 ∷ 0 ∷ []) ++ starts
+
+-- two states that stay, alike in signal 0 and not in signal 1; root signal 0
+abbrev pub lamps : List ℕ
+lamps = 1 ∷ 2 ∷ 2 ∷ 0 ∷ 2 ∷ 0 ∷ 1 ∷ 0 ∷ 2 ∷ 1 ∷ 2 ∷ 1 ∷ 1 ∷ 0 ∷ 0 ∷ []
 
 -- The starred cases. Rows beside them: the chain's listing (classes, combinations), which merged state a start has, no starts, bits of nodes
--- that are not under the root, and states that differ only in a signal that the root does not name.
+-- that are not under the root, states that differ only in a signal that the root does not name, and bytes after the last start.
 abbrev pub cases : List Case
 cases =
     row chainEG (pass 0 0)
@@ -150,14 +141,19 @@ cases =
     ∷ row chainEU (verdict (judged holds marks))
     ∷ row chainTrue (classes 0 (0 ∷ 0 ∷ 0 ∷ []))
     ∷ row chainTrue (pass 0 7)
-    ∷ row (pair []) (fullWords (3 ∷ 0 ∷ 1 ∷ 0 ∷ []))
-    ∷ row (pair ((0 ∷ 0 ∷ []) ∷ [])) (verdict (judged holds merged))
-    ∷ row (pair ((0 ∷ 1 ∷ []) ∷ [])) (verdict (judged fails merged))
-    ∷ row (pair ((1 ∷ 0 ∷ []) ∷ [])) (verdict (judged fails marks))
-    ∷ row (pair []) (verdict (judged holds marks))
-    ∷ row (pair []) (fail 0 2)
-    ∷ row (pair []) (mergedWords (3 ∷ 0 ∷ 1 ∷ 0 ∷ []))
-    ∷ row (pair []) (mergedOf (0 ∷ 1 ∷ []) 2)
+    ∷ row (pair (1 ∷ 0 ∷ 0 ∷ [])) (fullWords (3 ∷ 0 ∷ 1 ∷ 0 ∷ []))
+    ∷ row (pair (1 ∷ 0 ∷ 0 ∷ [])) (verdict (judged holds merged))
+    ∷ row (pair (1 ∷ 0 ∷ 1 ∷ [])) (verdict (judged fails merged))
+    ∷ row (pair (1 ∷ 1 ∷ 0 ∷ [])) (verdict (judged fails marks))
+    ∷ row [] (refused 1)
+    ∷ row (128 ∷ 0 ∷ []) (refused 2)
+    ∷ row (128 ∷ []) (refused 1)
+    ∷ row (0 ∷ []) (refused 3)
+    ∷ row (pair (0 ∷ [])) (verdict (judged holds marks))
+    ∷ row (pair (0 ∷ [])) (fail 0 2)
+    ∷ row (pair (0 ∷ [])) (mergedWords (3 ∷ 0 ∷ 1 ∷ 0 ∷ []))
+    ∷ row (pair (0 ∷ [])) (mergedOf (0 ∷ 1 ∷ []) 2)
     ∷ row chainSpare (mergedWords (4 ∷ []))
     ∷ row lamps (classes 0 (0 ∷ 0 ∷ []))
+    ∷ row (pair (0 ∷ 0 ∷ [])) (refused 10)
     ∷ []
