@@ -8,3 +8,4 @@ pub mod Relation
 pub mod Truth
 pub mod Merged
 pub mod Verdict
+pub mod Answers

@@ -106,7 +106,7 @@ digit-ones (suc k) (suc t) h =
 
 pub digit-not : (k w t : ℕ) → w < 2 ^ k → t < k → digit ((2 ^ k - 1) - w) t ≡ 1 - digit w t
 digit-not zero w t p h = absurd (not-suc-le-zero h)
-digit-not (suc k) w zero p h = rw (digit-zero, digit-zero w) (omega (arith, double k, pow-pos k))
+digit-not (suc k) w zero p h = rw (digit-zero ((2 ^ suc k - 1) - w), digit-zero w) (omega (arith, double k, pow-pos k))
 digit-not (suc k) w (suc t) p h =
     let e : ((2 ^ suc k - 1) - w) / 2 ≡ (2 ^ k - 1) - w / 2 = omega (arith, double k, pow-pos k) in
-    rw (digit-suc, digit-suc w t, e) (digit-not k (w / 2) t (omega (arith, double k)) (omega arith))
+    rw (digit-suc ((2 ^ suc k - 1) - w) t, digit-suc w t, e) (digit-not k (w / 2) t (omega (arith, double k)) (omega arith))
