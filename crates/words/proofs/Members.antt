@@ -7,7 +7,7 @@ use native.Mathlib.Nat.{not-suc-le-zero}
 use native.Mathlib.Decide.{decLt, ℕ-discrete}
 use native.Mathlib.Omega.{arith}
 use lib.Dec.{T, lit<, eqb, eqb→eq, eqb-refl}
-use lib.Bits.{bitAnd, bitOr, and-le-l, or-lt}
+use lib.Bits.{bitAnd, bitOr, and-le-l, and-le-r, or-add-and, or-lt, and-lt}
 use lib.Count.{ones, ones-step, trailingZeros, under}
 use lib.Pow.{pow-pos, pow-lt}
 use Rattle.words.specs.Sets.{digit, has, built, insert, union, intersection, below, complement, subset, empty, lowest, size}
@@ -114,6 +114,10 @@ pub union-lt : (k a b : ℕ) → a < 2 ^ k → b < 2 ^ k → union a b < 2 ^ k
 unfolding union
 union-lt k a b p q = or-lt k a b p q
 
+pub union-none : (a b : ℕ) → union a b ≡ 0 → (a ≡ 0) × (b ≡ 0)
+unfolding union
+union-none a b e = (omega (arith, or-add-and a b, and-le-r a b), omega (arith, or-add-and a b, and-le-l a b))
+
 pub has-intersection : (a b t : ℕ) → has (intersection a b) t ≡ (has a t && has b t)
 unfolding intersection
 has-intersection a b t = ap (λ d. eqb d 1) (digit-and a b t) ∙ and-test (digit a t) (digit b t) (digit-lt a t) (digit-lt b t)
@@ -168,6 +172,12 @@ complement-is k s w l p =
     digit-and (2 ^ s - 1) ((2 ^ k - 1) - w) t ∙ omega (arith, digit-ones s t h, digit-not k w t p (omega arith), digit-lt w t)
     in
     ap (λ d. eqb d 1) e ∙ (flip-test (digit w t) (digit-lt w t) ∙ sym (has-built s (λ t. not (has w t)) t h)))
+
+-- the code's `!w` in words of k digits
+pub complement-whole : (k w : ℕ) → w < 2 ^ k → (2 ^ k - 1) - w ≡ complement k w
+complement-whole k w p =
+    same-members k ((2 ^ k - 1) - w) (complement k w) (omega (arith, pow-pos k)) (complement-lt k w)
+    (λ t l. ap (λ d. eqb d 1) (digit-not k w t p l) ∙ (flip-test (digit w t) (digit-lt w t) ∙ sym (has-complement k w t l)))
 
 pub subset-out : (a b : ℕ) → T (subset a b) → (t : ℕ) → T (has a t) → T (has b t)
 unfolding subset intersection

@@ -1,0 +1,105 @@
+//! Good instruments from a seed.
+
+mod formula;
+mod shapes;
+mod tables;
+
+use crate::instrument::{Instrument, Node, Table};
+use crate::limits;
+use crate::marks::marks;
+use crate::prng::Prng;
+use crate::reading::Reading;
+use formula::formula;
+pub use shapes::{at_limits, large_alike, large_different, medium, small, tiny, Shape};
+pub use tables::random_table;
+use tables::{change_one_set, listed_inputs, with_duplicates};
+
+/// An instrument of a shape that is itself drawn; most are small.
+pub fn instrument(prng: &mut Prng) -> Instrument {
+    let shape = match prng.below(1000) {
+        0..=399 => tiny(prng),
+        400..=859 => small(prng),
+        860..=971 => medium(prng),
+        972..=981 => large_alike(prng),
+        982..=996 => large_different(prng),
+        _ => at_limits(prng),
+    };
+    instrument_of(prng, &shape)
+}
+
+/// An instrument of the shape: each signal is driven by one component or is external.
+pub fn instrument_of(prng: &mut Prng, shape: &Shape) -> Instrument {
+    let components = shape.sizes.len();
+    let mut outputs = vec![Vec::new(); components];
+    for signal in 0..shape.signals {
+        // About a fifth of the signals are external.
+        let c = prng.below(components);
+        if !prng.percent(20) && outputs[c].len() < limits::OUTPUTS {
+            outputs[c].push(signal);
+        }
+    }
+    let mut tables = Vec::new();
+    for (own_outputs, &states) in outputs.iter().zip(&shape.sizes) {
+        let inputs = listed_inputs(prng, shape, own_outputs);
+        let different = shape.different_states.min(states);
+        let table = random_table(prng, different, inputs, own_outputs.clone());
+        let mut table = with_duplicates(prng, &table, states);
+        if prng.percent(30) {
+            change_one_set(prng, &mut table);
+        }
+        tables.push(table);
+    }
+    let driven: Vec<usize> = outputs.into_iter().flatten().collect();
+    let nodes = chosen_formula(prng, &tables, &driven, shape.nodes);
+    let starts = starts(prng, &tables, &nodes, shape.starts);
+    Instrument { signals: shape.signals, tables, nodes, starts }
+}
+
+/// Mostly a formula whose root leaves some combined state without a mark, where
+/// one is found in a few attempts.
+fn chosen_formula(prng: &mut Prng, tables: &[Table], driven: &[usize], count: usize) -> Vec<Node> {
+    let mut nodes = formula(prng, driven, count);
+    let attempts = if prng.percent(70) { 8 } else { 0 };
+    for _ in 0..attempts {
+        if !unmarked_states(tables, &nodes).iter().any(|states| states.is_empty()) {
+            break;
+        }
+        nodes = formula(prng, driven, count);
+    }
+    nodes
+}
+
+/// For each component, the states that are neither PASS nor FAIL of the root.
+fn unmarked_states(tables: &[Table], nodes: &[Node]) -> Vec<Vec<usize>> {
+    let mut unmarked = Vec::new();
+    for table in tables {
+        let marks = marks(table, nodes, Reading::Document);
+        let root = &marks[nodes.len() - 1];
+        let states = 0..table.states();
+        unmarked.push(states.filter(|&s| !root.pass[s] && !root.fail[s]).collect());
+    }
+    unmarked
+}
+
+/// Random starts, some of them repeated; half of the lists have states without
+/// a mark where there are any.
+fn starts(prng: &mut Prng, tables: &[Table], nodes: &[Node], count: usize) -> Vec<Vec<usize>> {
+    let unmarked = unmarked_states(tables, nodes);
+    let prefer_unmarked = prng.percent(50);
+    let mut starts: Vec<Vec<usize>> = Vec::new();
+    for _ in 0..count {
+        if !starts.is_empty() && prng.percent(20) {
+            let repeated = prng.one_of(&starts).clone();
+            starts.push(repeated);
+            continue;
+        }
+        let mut start = Vec::new();
+        for (c, table) in tables.iter().enumerate() {
+            let any = prng.below(table.states());
+            let wanted = prefer_unmarked && !unmarked[c].is_empty();
+            start.push(if wanted { *prng.one_of(&unmarked[c]) } else { any });
+        }
+        starts.push(start);
+    }
+    starts
+}

@@ -1,0 +1,87 @@
+//! The bench cases of document 01 and cases at its limits.
+
+use super::random_cases::asked_states;
+use super::Case;
+use crate::examples::{self, all_to_zero, chain_with, counters, pair_from};
+use crate::fields::write;
+use crate::instrument::{Instrument, Node};
+use crate::prng::Prng;
+use crate::reader::read;
+
+pub fn cases() -> Vec<Case> {
+    let mut cases = document_cases();
+    cases.extend(limit_cases());
+    cases.extend(trailing_cases());
+    cases
+}
+
+/// A case whose asked states are drawn with the seed where the file is good.
+fn case(name: &str, file: Vec<u8>) -> Case {
+    let asked = match read(&file) {
+        Ok(accepted) => asked_states(&mut Prng::new(file.len() as u64), &accepted.instrument),
+        Err(_) => vec![[0, 0, 0, 0], [1, 0, 2, 0]],
+    };
+    Case { name: name.to_string(), file, asked }
+}
+
+fn good(name: &str, instrument: &Instrument) -> Case {
+    case(name, write(instrument))
+}
+
+fn document_cases() -> Vec<Case> {
+    let p = Node::Signal(0);
+    vec![
+        case("chain_eg", examples::CHAIN.to_vec()),
+        good("chain_ex", &chain_with(&[p, Node::Ex(0)])),
+        good("chain_eu", &chain_with(&[Node::True, p, Node::Not(1), Node::Eu(0, 2)])),
+        good("chain_true", &chain_with(&[Node::True])),
+        case("pair_0_0", pair_from(0, 0)),
+        case("pair_0_1", pair_from(0, 1)),
+        case("pair_1_0", pair_from(1, 0)),
+        case("pair_1_1", pair_from(1, 1)),
+        case("empty", vec![]),
+        case("bytes_128_0", vec![128, 0]),
+        case("byte_128", vec![128]),
+        case("byte_0", vec![0]),
+    ]
+}
+
+fn limit_cases() -> Vec<Case> {
+    let without_starts = Instrument { starts: vec![], ..examples::merged_too_large() };
+    let signal_only = Instrument { nodes: vec![Node::Signal(0)], ..counters(&[32]) };
+    let mut full_set = counters(&[32]);
+    full_set.tables[0].successors[7] = vec![(0..32).collect()];
+    vec![
+        good("states_32", &all_to_zero(32)),
+        good("states_33", &all_to_zero(33)),
+        good("counter_32", &counters(&[32])),
+        good("counter_signal", &signal_only),
+        good("all_32_successor", &full_set),
+        good("sizes_32_32_4", &counters(&[32, 32, 4])),
+        good("sizes_32_32_5", &examples::merged_too_large()),
+        good("no_starts_5120", &without_starts),
+        good("marked_5120", &examples::merged_too_large_but_marked()),
+        good("small_merged", &examples::full_too_large_merged_small()),
+        good("longest", &examples::longest()),
+    ]
+}
+
+/// Files with trailing bytes around 16,385 bytes, and one with an earlier fault.
+fn trailing_cases() -> Vec<Case> {
+    let longer = |file: &[u8], length: usize| {
+        let mut longer = file.to_vec();
+        longer.resize(length, 0);
+        longer
+    };
+    let mut fault_at_10 = examples::CHAIN.to_vec();
+    fault_at_10[10] = 8;
+    let longest = write(&examples::longest());
+    vec![
+        case("chain_16385", longer(&examples::CHAIN, 16_385)),
+        case("chain_16386", longer(&examples::CHAIN, 16_386)),
+        case("pair_20000", longer(&examples::PAIR, 20_000)),
+        case("longest_10772", longer(&longest, longest.len() + 1)),
+        case("longest_16400", longer(&longest, 16_400)),
+        case("fault_6_17000", longer(&fault_at_10, 17_000)),
+    ]
+}

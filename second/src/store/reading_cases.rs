@@ -1,0 +1,77 @@
+//! Cases whose output is different under a wrong reading of document 01, and
+//! cases whose merged combination is above 4,096.
+
+use super::random_cases::asked_states;
+use super::{output, output_under, Case};
+use crate::fields::write;
+use crate::generator::{instrument_of, large_different, medium, small, tiny};
+use crate::instrument::Instrument;
+use crate::prng::Prng;
+use crate::queries::Queries;
+use crate::reading::WRONG_READINGS;
+use crate::refusal::Refusal;
+
+/// The first seed of these cases, away from other seeds.
+const FIRST_SEED: u64 = 2_000_000_000;
+/// Seeds of one reading are this far from those of the next.
+const SEEDS: u64 = 1_000_000;
+/// Cases for each wrong reading.
+const FOR_EACH_READING: usize = 8;
+/// Cases above 4,096 merged states.
+const MERGED_TOO_LARGE: usize = 6;
+
+pub fn cases() -> Vec<Case> {
+    let mut cases = Vec::new();
+    let mut first = FIRST_SEED;
+    for (r, reading) in WRONG_READINGS.into_iter().enumerate() {
+        let name = format!("reading_{r:02}");
+        cases.extend(found(&name, first, FOR_EACH_READING, &drawn_small, &|case| {
+            output(case) != output_under(case, reading)
+        }));
+        first += SEEDS;
+    }
+    cases.extend(found("merged_over", first, MERGED_TOO_LARGE, &drawn_large, &|case| {
+        let queries = Queries::of(&case.file);
+        queries.is_ok_and(|queries| queries.merged() == Err(Refusal::MergedTooLarge))
+    }));
+    cases
+}
+
+/// The first cases, in order of seeds, for which `wanted` is true.
+fn found(
+    name: &str,
+    first_seed: u64,
+    count: usize,
+    drawn: &dyn Fn(&mut Prng) -> Instrument,
+    wanted: &dyn Fn(&Case) -> bool,
+) -> Vec<Case> {
+    let mut cases = Vec::new();
+    for seed in first_seed.. {
+        let mut prng = Prng::new(seed);
+        let instrument = drawn(&mut prng);
+        let asked = asked_states(&mut prng, &instrument);
+        let name = format!("{name}_{}", cases.len());
+        let case = Case { name, file: write(&instrument), asked };
+        if wanted(&case) {
+            cases.push(case);
+        }
+        if cases.len() == count {
+            break;
+        }
+    }
+    cases
+}
+
+fn drawn_small(prng: &mut Prng) -> Instrument {
+    let shape = match prng.below(4) {
+        0 => tiny(prng),
+        3 => medium(prng),
+        _ => small(prng),
+    };
+    instrument_of(prng, &shape)
+}
+
+fn drawn_large(prng: &mut Prng) -> Instrument {
+    let shape = large_different(prng);
+    instrument_of(prng, &shape)
+}

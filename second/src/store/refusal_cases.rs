@@ -1,0 +1,129 @@
+//! A case for each way to be refused. Document 01, "Refused".
+
+use super::Case;
+use crate::examples::{CHAIN, PAIR};
+
+/// A file with one fault, and the number it gets.
+pub struct Row {
+    pub name: &'static str,
+    pub file: Vec<u8>,
+    pub number: usize,
+}
+
+pub fn cases() -> Vec<Case> {
+    let case = |row: Row| Case {
+        name: row.name.to_string(),
+        file: row.file,
+        asked: vec![[0, 0, 0, 0], [4_294_967_295, 1, 0, 7]],
+    };
+    rows().into_iter().map(case).collect()
+}
+
+pub fn rows() -> Vec<Row> {
+    let mut rows = number_rows();
+    rows.extend(count_rows());
+    rows.extend(table_rows());
+    rows.extend(formula_and_start_rows());
+    rows
+}
+
+/// The file with other bytes instead of the one at the place.
+fn changed(name: &'static str, file: &[u8], place: usize, bytes: &[u8], number: usize) -> Row {
+    let mut changed = file[..place].to_vec();
+    changed.extend(bytes);
+    changed.extend(&file[place + 1..]);
+    Row { name, file: changed, number }
+}
+
+/// The file cut after the given bytes at the place.
+fn cut(name: &'static str, file: &[u8], place: usize, bytes: &[u8], number: usize) -> Row {
+    let mut cut = file[..place].to_vec();
+    cut.extend(bytes);
+    Row { name, file: cut, number }
+}
+
+/// 1 and 2: the file ends; the form is not the shortest or the value too high.
+fn number_rows() -> Vec<Row> {
+    vec![
+        cut("r01_signals", &CHAIN, 1, &[], 1),
+        cut("r01_word", &CHAIN, 7, &[], 1),
+        cut("r01_last", &CHAIN, 18, &[], 1),
+        cut("r01_in_number", &CHAIN, 9, &[130], 1),
+        cut("r01_four_bytes", &CHAIN, 9, &[130, 128, 128, 128], 1),
+        changed("r02_two_bytes", &CHAIN, 9, &[130, 0], 2),
+        changed("r02_three_bytes", &CHAIN, 9, &[130, 128, 0], 2),
+        changed("r02_five_bytes", &CHAIN, 9, &[130, 128, 128, 128, 0], 2),
+        changed("r02_fifth_16", &CHAIN, 9, &[130, 128, 128, 128, 16], 2),
+        cut("r02_fifth_16_end", &CHAIN, 9, &[130, 128, 128, 128, 16], 2),
+        cut("r02_fifth_128", &CHAIN, 9, &[130, 128, 128, 128, 128], 2),
+        changed("r02_six_bytes", &CHAIN, 9, &[130, 128, 128, 128, 128, 1], 2),
+        changed("r02_count", &CHAIN, 0, &[133, 0], 2),
+        changed("r06_fifth_15", &CHAIN, 9, &[255, 255, 255, 255, 15], 6),
+        cut("r06_fifth_15_end", &CHAIN, 9, &[255, 255, 255, 255, 15], 6),
+        cut("r06_fifth_1", &CHAIN, 9, &[128, 128, 128, 128, 1], 6),
+    ]
+}
+
+/// 3: a count outside its range.
+fn count_rows() -> Vec<Row> {
+    vec![
+        changed("r03_components_0", &CHAIN, 0, &[0], 3),
+        changed("r03_components_5", &CHAIN, 0, &[5], 3),
+        changed("r03_signals_13", &CHAIN, 1, &[13], 3),
+        changed("r03_states_0", &CHAIN, 2, &[0], 3),
+        changed("r03_states_33", &CHAIN, 2, &[33], 3),
+        changed("r03_inputs_5", &CHAIN, 3, &[5], 3),
+        changed("r03_outputs_9", &CHAIN, 4, &[9], 3),
+        changed("r03_nodes_0", &CHAIN, 12, &[0], 3),
+        changed("r03_nodes_25", &CHAIN, 12, &[25], 3),
+        changed("r03_starts_65", &CHAIN, 17, &[65], 3),
+        changed("r03_largest", &CHAIN, 17, &[255, 255, 255, 255, 15], 3),
+    ]
+}
+
+/// 4, 5 and 6: listed signals, output words and successor sets.
+fn table_rows() -> Vec<Row> {
+    // One component that lists the inputs 0 and 1 of four signals, and an output.
+    let two_inputs = [1, 4, 1, 2, 0, 1, 1, 2, 0, 1, 1, 1, 1, 1, 0, 0];
+    // One component that lists the outputs 1 and 2 of four signals.
+    let two_outputs = [1, 4, 1, 0, 2, 1, 2, 0, 1, 1, 0, 0];
+    vec![
+        changed("r04_input_high", &PAIR, 4, &[2], 4),
+        changed("r04_output_high", &PAIR, 6, &[2], 4),
+        changed("r04_in_repeated", &two_inputs, 5, &[0], 4),
+        changed("r04_in_lower", &[1, 4, 1, 2, 2, 1], 5, &[1], 4),
+        changed("r04_out_repeated", &two_outputs, 6, &[1], 4),
+        changed("r04_out_lower", &two_outputs, 6, &[0], 4),
+        changed("r05_driven", &PAIR, 16, &[0], 5),
+        changed("r05_own_input", &PAIR, 6, &[1], 5),
+        // Driven already and not ascending: 4 before 5.
+        changed("r04_before_5", &[2, 2, 1, 0, 1, 0, 0, 1, 1, 0, 2, 1, 0], 12, &[0], 4),
+        changed("r06_word", &CHAIN, 6, &[2], 6),
+        changed("r06_word_none", &[1, 0, 1, 0, 0, 0, 1, 1, 0, 0], 5, &[1], 6),
+        changed("r06_set_high", &CHAIN, 10, &[8], 6),
+        changed("r06_set_empty", &CHAIN, 10, &[0], 6),
+    ]
+}
+
+/// 7, 8, 9 and 10: nodes, starts and bytes after them.
+fn formula_and_start_rows() -> Vec<Row> {
+    let undriven = [1, 2, 1, 0, 1, 0, 1, 1, 1, 1, 0, 0];
+    vec![
+        changed("r07_kind", &CHAIN, 15, &[7], 7),
+        cut("r07_kind_end", &CHAIN, 15, &[7], 7),
+        changed("r07_kind_largest", &CHAIN, 13, &[255, 255, 255, 255, 15], 7),
+        changed("r07_itself", &CHAIN, 16, &[1], 7),
+        changed("r07_later", &CHAIN, 16, &[2], 7),
+        cut("r07_first_end", &CHAIN, 15, &[6, 1], 7),
+        changed("r07_second", &CHAIN, 15, &[6, 0, 1], 7),
+        changed("r07_first_node", &CHAIN, 13, &[2], 7),
+        changed("r08_external", &undriven, 10, &[1], 8),
+        changed("r08_not_below_w", &CHAIN, 14, &[1], 8),
+        changed("r08_largest", &CHAIN, 14, &[255, 255, 255, 255, 15], 8),
+        changed("r09_start", &CHAIN, 18, &[3], 9),
+        changed("r09_second", &PAIR, 28, &[2], 9),
+        cut("r09_end", &PAIR, 27, &[2], 9),
+        changed("r10_byte", &CHAIN, 18, &[0, 0], 10),
+        changed("r10_bad_number", &CHAIN, 18, &[0, 128, 0], 10),
+    ]
+}
