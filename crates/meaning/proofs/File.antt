@@ -1,4 +1,6 @@
 -- Tables, formulas and nodes of an instrument file.
+pub mod Lists
+pub mod Progress
 pub mod Tables
 pub mod Formulas
 pub mod Nodes
