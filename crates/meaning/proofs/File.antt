@@ -1,6 +1,10 @@
 -- Tables, formulas and nodes of an instrument file.
 pub mod Lists
 pub mod Progress
+pub mod Parsers
+pub mod Members
+pub mod Driven
+pub mod Numbers
 pub mod Tables
 pub mod Formulas
 pub mod Nodes
