@@ -5,6 +5,8 @@ pub mod Parsers
 pub mod Members
 pub mod Driven
 pub mod Numbers
+pub mod Components
+pub mod NodeLists
 pub mod Tables
 pub mod Formulas
 pub mod Nodes

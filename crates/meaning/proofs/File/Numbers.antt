@@ -100,7 +100,7 @@ module _ (L : Limits) where
     pub below : v < W
     pub free : T (has taken v) → ⊥
 
-  reads-signal : (W taken low : ℕ) → Reads (signal L W taken low) width (SignalRead W taken low)
+  pub reads-signal : (W taken low : ℕ) → Reads (signal L W taken low) width (SignalRead W taken low)
   unfolding signal
   reads-signal W taken low =
       weaker (omega arith) (λ v h. h)

@@ -5,6 +5,7 @@ use mathlib.Core.Bool.{Bool, false, true}
 use mathlib.Core.List.{List, [], _∷_}
 use lib.Dec.{T}
 use lib.ListN.{length, take}
+use native.Mathlib.Nat.{mul-le-mul-right}
 use native.Mathlib.Omega.{arith}
 use Prim.Native.Nat.{_*_, _+_, _≤_, suc, zero, ℕ}
 use Rattle.meaning.specs.File.Parser.{Parser, _>>=_, _>>_, demand, give, listOf, on}
@@ -57,10 +58,14 @@ pub record Sequence {A S : Type 0} (P : S → A → Type 0) (next : S → A → 
   pub items : Chain P next s vs
 
 module _ {A S : Type 0} (item : S → Parser A) (next : S → A → S) {b : ℕ} (P : S → A → Type 0) (r : (s : S) → Reads (item s) b (P s)) where
-  pub reads-list : (k : ℕ) (s : S) → Reads (listOf item next k s) (k * b) (Sequence P next k s)
+  list-of : (k : ℕ) (s : S) → Reads (listOf item next k s) (k * b) (Sequence P next k s)
   unfolding listOf
-  reads-list zero s = weaker (omega arith) (λ vs h. h) (reads-give (Sequence P next 0 s) [] (record { long = refl; items = tt }))
-  reads-list (suc k) s =
+  list-of zero s = weaker (omega arith) (λ vs h. h) (reads-give (Sequence P next 0 s) [] (record { long = refl; items = tt }))
+  list-of (suc k) s =
       let e : b + (k * b + 0) ≤ suc k * b = omega arith in
-      weaker e (λ vs h. h) (reads-bind (r s) (λ a p. reads-bind (reads-list k (next s a))
+      weaker e (λ vs h. h) (reads-bind (r s) (λ a p. reads-bind (list-of k (next s a))
       (λ rest h. reads-give (Sequence P next (suc k) s) (a ∷ rest) (record { long = ap suc (h .long); items = (p, h .items) }))))
+
+  -- so many, and n at the most
+  pub reads-list : (k n : ℕ) → k ≤ n → (s : S) → Reads (listOf item next k s) (n * b) (Sequence P next k s)
+  reads-list k n l s = weaker (mul-le-mul-right b l) (λ vs h. h) (list-of k s)

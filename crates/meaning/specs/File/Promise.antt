@@ -18,9 +18,12 @@ pub record Signals (W : ℕ) (vs : List ℕ) : Type 0 where
   pub ascending : (i j : ℕ) → i < j → j < length vs → getD vs i 0 < getD vs j 0
   pub below : All (λ v. v < W) vs
 
--- component i; past the last one, nothing
+-- component i; past the last one there is nothing
+abbrev pub noComponent : Component
+noComponent = record { states = 0; inputs = []; outputs = []; outs = []; nexts = [] }
+
 abbrev pub componentAt : Contents → ℕ → Component
-componentAt c i = getD (c .components) i (record { states = 0; inputs = []; outputs = []; outs = []; nexts = [] })
+componentAt c i = getD (c .components) i noComponent
 
 -- a component by itself, in a file with the signals below W
 pub record PromisedComponent (L : Limits) (W : ℕ) (c : Component) : Type 0 where
