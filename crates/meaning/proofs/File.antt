@@ -7,6 +7,7 @@ pub mod Driven
 pub mod Numbers
 pub mod Components
 pub mod NodeLists
+pub mod Reads
 pub mod Tables
 pub mod Formulas
 pub mod Nodes
