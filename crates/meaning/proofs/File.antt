@@ -8,6 +8,8 @@ pub mod Numbers
 pub mod Components
 pub mod NodeLists
 pub mod Reads
+pub mod Accepted
+pub mod Limit
 pub mod Tables
 pub mod Formulas
 pub mod Nodes
