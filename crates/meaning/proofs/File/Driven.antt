@@ -29,7 +29,7 @@ with-all-listed set (v ∷ vs) w h =
     ]
 
 -- and nothing else
-pub with-all-out : (set : ℕ) (vs : List ℕ) (w : ℕ) → T (has (withAll set vs) w) → T (has set w) ⊎ T (listed vs w)
+with-all-out : (set : ℕ) (vs : List ℕ) (w : ℕ) → T (has (withAll set vs) w) → T (has set w) ⊎ T (listed vs w)
 unfolding withAll
 with-all-out set [] w h = inl h
 with-all-out set (v ∷ vs) w h =
@@ -48,19 +48,19 @@ has-with-all set vs w = (
   λ h. elim h [ inl a ↦ with-all-set set vs w a | inr l ↦ with-all-listed set vs w l ],
 )
 
--- a component drives a signal, and the set has it
-pub driven-set : (set : ℕ) (cs : List Component) (w : ℕ) → T (has set w) → T (has (drivenBy set cs) w)
-driven-set set [] w h = h
-driven-set set (c ∷ cs) w h = driven-set (withAll set (c .outputs)) cs w (with-all-set set (c .outputs) w h)
-
+-- so with what components drive: the signals of the set, and the outputs of each
 module _ (none : Component) where
-  pub driven-listed : (set : ℕ) (cs : List Component) (w i : ℕ) → i < length cs → T (listed (getD cs i none .outputs) w)
+  driven-set : (set : ℕ) (cs : List Component) (w : ℕ) → T (has set w) → T (has (drivenBy set cs) w)
+  driven-set set [] w h = h
+  driven-set set (c ∷ cs) w h = driven-set (withAll set (c .outputs)) cs w (with-all-set set (c .outputs) w h)
+
+  driven-listed : (set : ℕ) (cs : List Component) (w i : ℕ) → i < length cs → T (listed (getD cs i none .outputs) w)
       → T (has (drivenBy set cs) w)
   driven-listed set [] w i l h = absurd (omega arith)
   driven-listed set (c ∷ cs) w zero l h = driven-set (withAll set (c .outputs)) cs w (with-all-listed set (c .outputs) w h)
   driven-listed set (c ∷ cs) w (suc i) l h = driven-listed (withAll set (c .outputs)) cs w i (omega arith) h
 
-  pub driven-out : (set : ℕ) (cs : List Component) (w : ℕ) → T (has (drivenBy set cs) w)
+  driven-out : (set : ℕ) (cs : List Component) (w : ℕ) → T (has (drivenBy set cs) w)
       → T (has set w) ⊎ ((i : ℕ) × (i < length cs) × T (listed (getD cs i none .outputs) w))
   driven-out set [] w h = inl h
   driven-out set (c ∷ cs) w h =
@@ -68,3 +68,10 @@ module _ (none : Component) where
         | inl k ↦ elim (with-all-out set (c .outputs) w k) [ inl a ↦ inl a | inr l ↦ inr (0, omega arith, l) ]
         | inr (i, l, k) ↦ inr (suc i, omega arith, k)
       ]
+
+  pub has-driven : (set : ℕ) (cs : List Component) (w : ℕ)
+      → T (has (drivenBy set cs) w) ↔ (T (has set w) ⊎ ((i : ℕ) × (i < length cs) × T (listed (getD cs i none .outputs) w)))
+  has-driven set cs w = (
+    driven-out set cs w,
+    λ h. elim h [ inl a ↦ driven-set set cs w a | inr (i, l, k) ↦ driven-listed set cs w i l k ],
+  )

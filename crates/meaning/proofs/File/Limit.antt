@@ -7,6 +7,7 @@ use lib.ListN.{take}
 use native.Mathlib.Omega.{arith}
 use Prim.Native.Nat.{_*_, _+_, _≤_, ℕ}
 use Rattle.meaning.specs.File.Grammar.{Limits, limits, readFile, whole}
+use Rattle.meaning.specs.File.Promise.{listingBytes}
 use Rattle.meaning.proofs.File.Numbers.{width}
 use Rattle.meaning.proofs.File.Reads.{fileNumbers, reads-whole}
 
@@ -15,5 +16,5 @@ pub settled : (L : Limits) (k : ℕ) → fileNumbers L * width L + 1 ≤ k → (
 settled L k h file = reads-whole L .same k file 0 (omega arith)
 
 -- the same refusal, or the same contents with the same end
-pub limit : (file : List ℕ) → readFile (take 16385 file) ≡ readFile file
-limit file = settled limits 16385 (lit≤ tt) file
+pub limit : (file : List ℕ) → readFile (take listingBytes file) ≡ readFile file
+limit file = settled limits listingBytes (lit≤ tt) file

@@ -40,17 +40,29 @@ pub on-assoc : {A B C : Type 0} (g : Got A) (f : A → ℕ → Got B) (h : B →
 on-assoc (found a n) f h = refl
 on-assoc (fault r) f h = refl
 
--- the items of a list that was read from the place `at` up to the place e: each, its place and the place after it are P in the state that
--- the items before it lead to
-abbrev pub Items : {A S : Type 0} → (S → ℕ → A → ℕ → Type 0) → (S → A → S) → S → ℕ → List A → ℕ → Type 0
-Items P next s at [] e = at ≡ e
-Items P next s at (a ∷ rest) e = (n : ℕ) × P s at a n × Items P next (next s a) n rest e
+-- each item is P in the state that those before it lead to
+abbrev pub Along : {A S : Type 0} → (S → A → Type 0) → (S → A → S) → S → List A → Type 0
+Along P next s [] = Unit {0}
+Along P next s (a ∷ rest) = P s a × Along P next (next s a) rest
 
--- there are as many as were asked for
-pub record ListRead {A S : Type 0} (P : S → ℕ → A → ℕ → Type 0) (next : S → A → S) (k : ℕ) (s : S) (at : ℕ) (vs : List A) (e : ℕ)
-    : Type 0 where
+-- and there are as many as were asked for
+pub record Sequence {A S : Type 0} (P : S → A → Type 0) (next : S → A → S) (k : ℕ) (s : S) (vs : List A) : Type 0 where
   pub long : length vs ≡ k
-  pub items : Items P next s at vs e
+  pub items : Along P next s vs
+
+-- items of which nothing hangs on those before
+pub along-all : {A S : Type 0} (P : A → Type 0) (s : S) (vs : List A) → Along (λ (t : S). P) (λ t a. t) s vs → All P vs
+along-all P s [] h = tt
+along-all P s (a ∷ vs) h = (h .0, along-all P s vs (h .1))
+
+-- items that hang on how many stand before them
+pub along-places : {A : Type 0} (P : ℕ → A → Type 0) (d : A) (k : ℕ) (vs : List A) → Along P (λ k a. k + 1) k vs
+    → (i : ℕ) → i < length vs → P (k + i) (getD vs i d)
+along-places P d k [] h i l = absurd (omega arith)
+along-places P d k (a ∷ vs) h zero l = let e : k ≡ k + 0 = omega arith in subst (λ n. P n a) e (h .0)
+along-places P d k (a ∷ vs) h (suc i) l =
+    let e : k + 1 + i ≡ k + suc i = omega arith in
+    subst (λ n. P n (getD vs i d)) e (along-places P d (k + 1) vs (h .1) i (omega arith))
 
 module _ {A S : Type 0} (item : S → Parser A) (next : S → A → S) (file : List ℕ) where
   -- a list of no items, and of one item with others after it
@@ -64,39 +76,26 @@ module _ {A S : Type 0} (item : S → Parser A) (next : S → A → S) (file : L
   unfolding listOf
   list-more k s at = refl
 
-  -- each item is what its parser says
-  pub list-says : (P : S → ℕ → A → ℕ → Type 0) → ((s : S) (at : ℕ) → Says (P s at) (item s file at)) → (k : ℕ) (s : S) (at : ℕ)
-      → Says (ListRead P next k s at) (listOf item next k s file at)
-  list-says P h zero s at = rw (list-none s at) (record { long = refl; items = refl })
+  -- an item is what its parser says
+  pub list-says : (P : S → A → Type 0) → ((s : S) (at : ℕ) → Says (λ a n. P s a) (item s file at)) → (k : ℕ) (s : S) (at : ℕ)
+      → Says (λ vs e. Sequence P next k s vs) (listOf item next k s file at)
+  list-says P h zero s at = rw (list-none s at) (record { long = refl; items = tt })
   list-says P h (suc k) s at =
       rw (list-more k s at)
-      (on-says (P s at) (ListRead P next (suc k) s at) (item s file at)
+      (on-says (λ a n. P s a) (λ vs e. Sequence P next (suc k) s vs) (item s file at)
       (λ a n. on (listOf item next k (next s a) file n) (λ rest e. found (a ∷ rest) e)) (h s at)
-      (λ a n p. on-says (ListRead P next k (next s a) n) (ListRead P next (suc k) s at) (listOf item next k (next s a) file n)
-      (λ rest e. found (a ∷ rest) e) (list-says P h k (next s a) n)
-      (λ rest e q. record { long = ap suc (q .long); items = (n, p, q .items) })))
+      (λ a n p. on-says (λ vs e. Sequence P next k (next s a) vs) (λ vs e. Sequence P next (suc k) s vs)
+      (listOf item next k (next s a) file n) (λ rest e. found (a ∷ rest) e) (list-says P h k (next s a) n)
+      (λ rest e q. record { long = ap suc (q .long); items = (p, q .items) })))
 
+  -- each item of a list that was read was found by its parser
   pub list-items : (k : ℕ) (s : S) (at : ℕ) (vs : List A) (e : ℕ) → listOf item next k s file at ≡ found vs e
-      → ListRead (λ s at a n. item s file at ≡ found a n) next k s at vs e
-  list-items k s at vs e q =
-      found-says (ListRead (λ s at a n. item s file at ≡ found a n) next k s at) (listOf item next k s file at)
-      (list-says (λ s at a n. item s file at ≡ found a n) (λ s at. says-itself (item s file at)) k s at) vs e q
+      → Sequence (λ s a. (here after : ℕ) × (item s file here ≡ found a after)) next k s vs
+  list-items k s at vs e q = found-says (λ vs e. Sequence Found next k s vs) (listOf item next k s file at) (list-says Found each k s at) vs e q
+    where
+      Found : S → A → Type 0
+      Found s a = (here after : ℕ) × (item s file here ≡ found a after)
 
--- each item is P in the state that those before it lead to
-abbrev pub Chain : {A S : Type 0} → (S → A → Type 0) → (S → A → S) → S → List A → Type 0
-Chain P next s [] = Unit {0}
-Chain P next s (a ∷ rest) = P s a × Chain P next (next s a) rest
-
--- items of which nothing hangs on those before
-pub chain-all : {A S : Type 0} (P : A → Type 0) (s : S) (vs : List A) → Chain (λ (t : S). P) (λ t a. t) s vs → All P vs
-chain-all P s [] h = tt
-chain-all P s (a ∷ vs) h = (h .0, chain-all P s vs (h .1))
-
--- items that hang on how many stand before them
-pub chain-places : {A : Type 0} (P : ℕ → A → Type 0) (d : A) (k : ℕ) (vs : List A) → Chain P (λ k a. k + 1) k vs
-    → (i : ℕ) → i < length vs → P (k + i) (getD vs i d)
-chain-places P d k [] h i l = absurd (omega arith)
-chain-places P d k (a ∷ vs) h zero l = let e : k ≡ k + 0 = omega arith in subst (λ n. P n a) e (h .0)
-chain-places P d k (a ∷ vs) h (suc i) l =
-    let e : k + 1 + i ≡ k + suc i = omega arith in
-    subst (λ n. P n (getD vs i d)) e (chain-places P d (k + 1) vs (h .1) i (omega arith))
+      each : (s : S) (at : ℕ) → Says (λ a n. Found s a) (item s file at)
+      each s at =
+          says-map (λ a n. item s file at ≡ found a n) (λ a n. Found s a) (λ a n e. (at, n, e)) (item s file at) (says-itself (item s file at))

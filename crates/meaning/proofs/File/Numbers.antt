@@ -92,7 +92,7 @@ module _ (L : Limits) where
 
   pub reads-named : (W driven : ℕ) → Reads (named L W driven) width (λ v. T (has driven v))
   unfolding named
-  reads-named W driven = tested (λ v. ltb v W && has driven v) 8 (λ v. T (has driven v)) (λ v h. and-r (ltb v W) (has driven v) h)
+  reads-named W driven = tested (λ v. ltb v W && has driven v) _ (λ v. T (has driven v)) (λ v h. and-r (ltb v W) (has driven v) h)
 
   -- a listed signal is from `low` on and below W, and is not taken
   pub record SignalRead (W taken low v : ℕ) : Type 0 where
@@ -104,8 +104,8 @@ module _ (L : Limits) where
   unfolding signal
   reads-signal W taken low =
       weaker (omega arith) (λ v h. h)
-      (reads-bind reads-number (λ v u. reads-then (reads-demand (leb low v && ltb v W) 4)
-      (λ d h. reads-then (reads-demand (not (has taken v)) 5) (λ d′ k. reads-give (SignalRead W taken low) v
+      (reads-bind reads-number (λ v u. reads-then (reads-demand (leb low v && ltb v W) _)
+      (λ d h. reads-then (reads-demand (not (has taken v)) _) (λ d′ k. reads-give (SignalRead W taken low) v
       (record {
         from = leb→le low v (and-l (leb low v) (ltb v W) h);
         below = ltb→lt v W (and-r (leb low v) (ltb v W) h);

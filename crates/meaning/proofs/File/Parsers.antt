@@ -4,12 +4,12 @@ use mathlib.Core.Path.{_∙_, _≡_, ap, refl}
 use mathlib.Core.Bool.{Bool, false, true}
 use mathlib.Core.List.{List, [], _∷_}
 use lib.Dec.{T}
-use lib.ListN.{length, take}
+use lib.ListN.{take}
 use native.Mathlib.Nat.{mul-le-mul-right}
 use native.Mathlib.Omega.{arith}
 use Prim.Native.Nat.{_*_, _+_, _≤_, suc, zero, ℕ}
 use Rattle.meaning.specs.File.Parser.{Parser, _>>=_, _>>_, demand, give, listOf, on}
-use Rattle.meaning.proofs.File.Lists.{Chain, Says, on-same, on-says, says-map}
+use Rattle.meaning.proofs.File.Lists.{Says, Sequence, on-same, on-says, says-map}
 
 pub record Reads {A : Type 0} (p : Parser A) (b : ℕ) (Q : A → Type 0) : Type 0 where
   -- what is found is Q, and the place moves on by at most b
@@ -52,11 +52,7 @@ pub reads-then : {A B : Type 0} {p : Parser A} {q : Parser B} {b c : ℕ} {P : A
     → ((a : A) → P a → Reads q c Q) → Reads (_>>_ p q) (b + c) Q
 reads-then {q = q} r h = reads-bind {f = λ a. q} r h
 
--- the items of a list: as many as were asked for, each P in the state that those before it lead to
-pub record Sequence {A S : Type 0} (P : S → A → Type 0) (next : S → A → S) (k : ℕ) (s : S) (vs : List A) : Type 0 where
-  pub long : length vs ≡ k
-  pub items : Chain P next s vs
-
+-- the items of a list
 module _ {A S : Type 0} (item : S → Parser A) (next : S → A → S) {b : ℕ} (P : S → A → Type 0) (r : (s : S) → Reads (item s) b (P s)) where
   list-of : (k : ℕ) (s : S) → Reads (listOf item next k s) (k * b) (Sequence P next k s)
   unfolding listOf

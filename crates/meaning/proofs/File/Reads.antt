@@ -17,11 +17,11 @@ use Rattle.meaning.specs.Tests.{All}
 use Rattle.meaning.proofs.Basic.Booleans.{own-eq}
 use Rattle.meaning.proofs.Basic.Lists.{all-map}
 use Rattle.meaning.proofs.File.Components.{ComponentsRead, componentNumbers, reads-components}
-use Rattle.meaning.proofs.File.Driven.{driven-out}
-use Rattle.meaning.proofs.File.Lists.{chain-all, chain-places, found-says}
+use Rattle.meaning.proofs.File.Driven.{has-driven}
+use Rattle.meaning.proofs.File.Lists.{Sequence, along-all, along-places, found-says}
 use Rattle.meaning.proofs.File.NodeLists.{NodesRead, reads-nodes}
 use Rattle.meaning.proofs.File.Numbers.{reads-between, reads-less, width}
-use Rattle.meaning.proofs.File.Parsers.{Reads, Sequence, reads-bind, reads-demand, reads-give, reads-list, reads-then, weaker}
+use Rattle.meaning.proofs.File.Parsers.{Reads, reads-bind, reads-demand, reads-give, reads-list, reads-then, weaker}
 
 -- tests that say the same
 same-tests : (a b : Bool) → (T a → T b) → (T b → T a) → a ≡ b
@@ -41,7 +41,7 @@ module _ (L : Limits) where
   reads-start : (sizes : List ℕ) → length sizes ≤ L .components → Reads (start L sizes) (L .components * width L) (StartRead sizes)
   reads-start sizes l =
       weaker (omega arith) made
-      (reads-list (startState L sizes) (λ c v. c + 1) (λ c v. v < getD sizes c 0) (λ c. reads-less L (getD sizes c 0) 9) (length sizes)
+      (reads-list (startState L sizes) (λ c v. c + 1) (λ c v. v < getD sizes c 0) (λ c. reads-less L _ _) (length sizes)
       (L .components) l 0)
     where
       made : (vs : List ℕ) → Sequence (λ c v. v < getD sizes c 0) (λ c v. c + 1) (length sizes) 0 vs → StartRead sizes vs
@@ -50,13 +50,13 @@ module _ (L : Limits) where
             long = h .long;
             inside =
                 λ i k. let e : 0 + i ≡ i = omega arith in
-                subst (λ j. getD vs i 0 < getD sizes j 0) e (chain-places (λ c v. v < getD sizes c 0) 0 0 vs (h .items) i (omega (arith, h .long)));
+                subst (λ j. getD vs i 0 < getD sizes j 0) e (along-places (λ c v. v < getD sizes c 0) 0 0 vs (h .items) i (omega (arith, h .long)));
           }
 
   reads-starts : (sizes : List ℕ) (m : ℕ) → length sizes ≤ L .components → m ≤ L .starts
       → Reads (repeat (start L sizes) m) (L .starts * (L .components * width L)) (λ ss. (length ss ≡ m) × All (StartRead sizes) ss)
   reads-starts sizes m l k =
-      weaker (omega arith) (λ ss h. (h .long, chain-all (StartRead sizes) done ss (h .items)))
+      weaker (omega arith) (λ ss h. (h .long, along-all (StartRead sizes) done ss (h .items)))
       (reads-list (λ s. start L sizes) (λ s a. s) (λ s. StartRead sizes) (λ s. reads-start sizes l) m (L .starts) k done)
 
   -- ---- the end: one byte more would be seen
@@ -94,7 +94,7 @@ module _ (L : Limits) where
         earlier = qn .earlier;
         named =
             λ k w e.
-            elim (driven-out noComponent 0 cs w (qn .names k w e)) [ inl h ↦ absurd (subst T (has-none w) h) | inr d ↦ d ];
+            elim (has-driven noComponent 0 cs w .0 (qn .names k w e)) [ inl h ↦ absurd (subst T (has-none w) h) | inr d ↦ d ];
         startCount = omega (arith, qs .0);
         starts = all-map each ss (qs .1);
       }
@@ -111,12 +111,12 @@ module _ (L : Limits) where
   unfolding whole
   reads-whole =
       weaker (omega arith) (λ c h. h)
-      (reads-bind (reads-between L 1 (L .components) 3) (λ n hn.
-      reads-bind (reads-between L 0 (L .signals) 3) (λ W hW.
+      (reads-bind (reads-between L _ _ _) (λ n hn.
+      reads-bind (reads-between L _ _ _) (λ W hW.
       reads-bind (reads-components L W noComponent n (hn .1)) (λ cs qc.
-      reads-bind (reads-between L 1 (L .nodes) 3) (λ k hk.
+      reads-bind (reads-between L _ _ _) (λ k hk.
       reads-bind (reads-nodes L W (drivenBy 0 cs) k (hk .1)) (λ ns qn.
-      reads-bind (reads-between L 0 (L .starts) 3) (λ m hm.
+      reads-bind (reads-between L _ _ _) (λ m hm.
       reads-bind (reads-starts (map (λ c. c .states) cs) m (omega (arith, hn .1, qc .long, length-map cs (λ c. c .states))) (hm .1)) (λ ss qs.
       reads-then reads-finished (λ d u.
       reads-give (Promised L) (record { signals = W; components = cs; nodes = ns; starts = ss })

@@ -58,3 +58,7 @@ pub record Promised (L : Limits) (c : Contents) : Type 0 where
   -- a start has one state of each component
   pub starts : All (λ start. (length start ≡ length (c .components))
       × ((i : ℕ) → i < length (c .components) → getD start i 0 < componentAt c i .states)) (c .starts)
+
+-- the listing program reads so many bytes of standard input, which settles every longer input too (proofs/File/Limit)
+abbrev pub listingBytes : ℕ
+listingBytes = 16385
