@@ -137,6 +137,17 @@ insert-others w t u z =
     let e : digit (bitOr w (2 ^ t)) u ≡ digit w u = digit-or w (2 ^ t) u ∙ omega (arith, power-elsewhere t u z) in
     ap (λ d. eqb d 1) e
 
+-- what was in the set is in it with t besides, and only that and t are
+pub insert-in : (w t u : ℕ) → T (has w u) → T (has (insert w t) u)
+insert-in w t u h =
+    elim (ℕ-discrete t u) [
+      | yes e ↦ subst (λ u. T (has (insert w t) u)) e (has-insert w t)
+      | no z ↦ subst T (sym (insert-others w t u z)) h
+    ]
+
+pub insert-out : (w t u : ℕ) → T (has (insert w t) u) → T (has w u) ⊎ (t ≡ u)
+insert-out w t u h = elim (ℕ-discrete t u) [ yes e ↦ inr e | no z ↦ inl (subst T (insert-others w t u z) h) ]
+
 pub insert-lt : (k w t : ℕ) → w < 2 ^ k → t < k → insert w t < 2 ^ k
 unfolding insert
 insert-lt k w t p l = or-lt k w (2 ^ t) p (pow-lt l)
