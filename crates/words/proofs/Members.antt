@@ -5,9 +5,10 @@ use mathlib.Core.Bool.{Bool, true, false, not, _&&_, _||_, cond}
 use Prim.Native.Nat.{ℕ, zero, suc, _+_, _-_, _*_, _/_, _%_, _^_, min, max, _≤_, _<_}
 use native.Mathlib.Nat.{le-refl, lt-of-lt-of-le, not-suc-le-zero}
 use native.Mathlib.Decide.{decLt, ℕ-discrete}
+use native.Mathlib.Numerals.{add-one}
 use native.Mathlib.Omega.{arith}
 use lib.Dec.{T, lit<, eqb, eqb→eq, eqb-refl}
-use lib.Bits.{bitAnd, bitOr, and-le-l, or-lt, and-lt}
+use lib.Bits.{bitAnd, bitOr, and-le-l, and-le-r, or-lt, and-lt, or-add-and}
 use lib.Count.{ones, ones-step, trailingZeros, under}
 use lib.Pow.{pow-pos, pow-mono, pow-lt}
 use Rattle.words.specs.Sets.{digit, has, built, insert, union, intersection, below, complement, subset, empty, lowest, size}
@@ -152,6 +153,66 @@ has-complement s w t l = has-built s (λ t. not (has w t)) t l
 pub complement-lt : (s w : ℕ) → complement s w < 2 ^ s
 unfolding complement
 complement-lt s w = built-lt s (λ t. not (has w t))
+
+-- an intersection is at most either word, and a union at least
+pub intersection-le : (a b : ℕ) → intersection a b ≤ a
+unfolding intersection
+intersection-le a b = and-le-l a b
+
+pub intersection-le-r : (a b : ℕ) → intersection a b ≤ b
+unfolding intersection
+intersection-le-r a b = and-le-r a b
+
+pub union-ge : (a b : ℕ) → a ≤ union a b
+unfolding union
+union-ge a b = omega (arith, or-add-and a b, and-le-r a b)
+
+-- a set is built number by number
+pub built-none : (f : ℕ → Bool) → built 0 f ≡ 0
+unfolding built
+built-none f = refl
+
+pub built-in : (n : ℕ) (f : ℕ → Bool) → f n ≡ true → insert (built n f) n ≡ built (n + 1) f
+built-in n f e =
+    same-members (n + 1) (insert (built n f) n) (built (n + 1) f) (insert-lt (n + 1) (built n f) n wider (omega arith)) (built-lt (n + 1) f)
+    (λ t l. at t (ℕ-discrete n t) l ∙ sym (has-built (n + 1) f t l))
+  where
+    wider : built n f < 2 ^ (n + 1)
+    wider = lt-of-lt-of-le (built-lt n f) (pow-mono (omega arith))
+
+    at : (t : ℕ) → Dec (n ≡ t) → t < n + 1 → has (insert (built n f) n) t ≡ f t
+    at t (yes p) l = rw (← p) (ap (λ d. eqb d 1) (has-one (insert (built n f) n) n (has-insert (built n f) n)) ∙ sym e)
+    at t (no p) l = insert-others (built n f) n t p ∙ has-built n f t (omega arith)
+
+pub built-out : (n : ℕ) (f : ℕ → Bool) → f n ≡ false → built n f ≡ built (n + 1) f
+unfolding built
+built-out n f e = rw (add-one n, e) (omega arith)
+
+-- operations on built sets
+pub built-below : (n : ℕ) → built n (λ t. true) ≡ below n
+built-below n =
+    same-members n (built n (λ t. true)) (below n) (built-lt n (λ t. true)) (below-lt n)
+    (λ t l. has-built n (λ t. true) t l ∙ sym (has-below n t l))
+
+pub built-union : (n : ℕ) (f g : ℕ → Bool) → union (built n f) (built n g) ≡ built n (λ t. f t || g t)
+built-union n f g =
+    same-members n (union (built n f) (built n g)) (built n (λ t. f t || g t))
+    (union-lt n (built n f) (built n g) (built-lt n f) (built-lt n g)) (built-lt n (λ t. f t || g t))
+    (λ t l.
+    has-union (built n f) (built n g) t
+    ∙ (ap₂ (λ a b. a || b) (has-built n f t l) (has-built n g t l) ∙ sym (has-built n (λ t. f t || g t) t l)))
+
+pub built-intersection : (n : ℕ) (f g : ℕ → Bool) → intersection (built n f) (built n g) ≡ built n (λ t. f t && g t)
+built-intersection n f g =
+    same-members n (intersection (built n f) (built n g)) (built n (λ t. f t && g t))
+    (intersection-lt n (built n f) (built n g) (built-lt n f)) (built-lt n (λ t. f t && g t))
+    (λ t l.
+    has-intersection (built n f) (built n g) t
+    ∙ (ap₂ (λ a b. a && b) (has-built n f t l) (has-built n g t l) ∙ sym (has-built n (λ t. f t && g t) t l)))
+
+pub built-complement : (n : ℕ) (f : ℕ → Bool) → complement n (built n f) ≡ built n (λ t. not (f t))
+unfolding complement
+built-complement n f = built-same n (λ t. not (has (built n f) t)) (λ t. not (f t)) (λ t l. ap not (has-built n f t l))
 
 -- the complement is all ones of k digits less w, cut to s digits
 flip-test : (d : ℕ) → d < 2 → eqb (1 - d) 1 ≡ not (eqb d 1)
