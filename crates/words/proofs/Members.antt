@@ -7,7 +7,7 @@ use native.Mathlib.Nat.{le-refl, lt-of-lt-of-le, not-suc-le-zero}
 use native.Mathlib.Decide.{decLt, ℕ-discrete}
 use native.Mathlib.Numerals.{add-one}
 use native.Mathlib.Omega.{arith}
-use lib.Dec.{T, lit<, eqb, eqb→eq, eqb-refl}
+use lib.Dec.{T, T-not, not-T, lit<, eqb, eqb→eq, eqb-refl}
 use lib.Bits.{bitAnd, bitOr, and-le-l, and-le-r, or-lt, and-lt, or-add-and}
 use lib.Count.{ones, ones-step, trailingZeros, under}
 use lib.Pow.{pow-pos, pow-mono, pow-lt}
@@ -269,6 +269,23 @@ some-member (suc k) w p z = go (w % 2) refl (some-member k (w / 2) (omega (arith
         (suc t, omega (arith, l), one-has w (suc t) (digit-suc w t ∙ has-one (w / 2) t h))
     go (suc zero) e ih = (0, omega arith, one-has w 0 (digit-zero w ∙ e))
     go (suc (suc d)) e ih = absurd (omega arith)
+
+-- words that have a common member
+pub meet-in : (a b t : ℕ) → T (has a t) → T (has b t) → T (not (empty (intersection a b)))
+unfolding intersection
+meet-in a b t h i =
+    let o : digit (bitAnd a b) t ≡ 1 = digit-and a b t ∙ omega (arith, has-one a t h, has-one b t i) in
+    not-T (empty (bitAnd a b)) (λ e. subst T (empty-out (bitAnd a b) e t) (one-has (bitAnd a b) t o))
+
+pub meet-out : (k a b : ℕ) → a < 2 ^ k → T (not (empty (intersection a b))) → (t : ℕ) × (t < k) × T (has a t) × T (has b t)
+unfolding intersection empty
+meet-out k a b p h =
+    let (t, l, m) =
+    some-member k (bitAnd a b) (omega (arith, and-le-l a b)) (λ e. T-not (eqb (bitAnd a b) 0) h (subst (λ w. T (eqb w 0)) (sym e) tt))
+    in
+    let d = digit-and a b t in
+    let o = has-one (bitAnd a b) t m in
+    (t, l, one-has a t (omega (arith, digit-lt a t)), one-has b t (omega (arith, digit-lt b t)))
 
 -- ---- the lowest member
 low-test : (d x : ℕ) → d < 2 → under d x ≡ cond (eqb d 1) 0 (suc x)
