@@ -1,0 +1,4 @@
+pub mod Tests
+pub mod Component
+pub mod FixedPoints
+pub mod Rules

@@ -1,0 +1,3 @@
+pub mod Component
+pub mod Rules
+pub mod Sweeps
