@@ -2,3 +2,4 @@ pub mod Tests
 pub mod Component
 pub mod FixedPoints
 pub mod Rules
+pub mod Described
