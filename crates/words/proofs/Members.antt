@@ -189,6 +189,10 @@ unfolding built
 built-out n f e = rw (add-one n, e) (omega arith)
 
 -- operations on built sets
+pub built-empty : (n : ℕ) → built n (λ t. false) ≡ 0
+built-empty n =
+    same-members n (built n (λ t. false)) 0 (built-lt n (λ t. false)) (pow-pos n) (λ t l. has-built n (λ t. false) t l ∙ sym (has-none t))
+
 pub built-below : (n : ℕ) → built n (λ t. true) ≡ below n
 built-below n =
     same-members n (built n (λ t. true)) (below n) (built-lt n (λ t. true)) (below-lt n)
