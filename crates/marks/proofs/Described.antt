@@ -1,11 +1,10 @@
 -- What the words of the rules mean: document 01's sets and paths (meaning's specs/Marks). A state is in the word exactly if it is as the words
 -- of document 01 say, where the operands' marks are any sets.
 use mathlib.Core.Path.{subst, sym}
-use mathlib.Core.Bool.{Bool, true, false}
 use mathlib.Core.List.{List}
 use lib.Dec.{T}
 use lib.ListN.{getD}
-use Prim.Native.Nat.{ℕ, _<_}
+use Prim.Native.Nat.{ℕ}
 use Rattle.words.specs.Sets.{has, below}
 use Rattle.words.proofs.Members.{has-below, has-none}
 use Rattle.meaning.specs.Table.{Table, Total}
