@@ -1,18 +1,19 @@
 -- What the definitions of specs/Sets say of membership: laws over ℕ, for every width.
-use mathlib.Core.Path.{_≡_, refl, sym, subst, ap, ap₂, _∙_}
-use mathlib.Core.Logic.{_≢_}
-use mathlib.Core.Bool.{Bool, true, false, not, _&&_, _||_, cond}
-use Prim.Native.Nat.{ℕ, zero, suc, _+_, _-_, _/_, _%_, _^_, min, max, _≤_, _<_}
-use native.Mathlib.Nat.{not-suc-le-zero}
-use native.Mathlib.Decide.{decLt, ℕ-discrete}
-use native.Mathlib.Omega.{arith}
-use lib.Dec.{T, lit<, eqb, eqb→eq, eqb-refl}
-use lib.Bits.{bitAnd, bitOr, and-le-l, and-le-r, or-add-and, or-lt, and-lt}
+use mathlib.Core.Path.{_∙_, _≡_, ap, ap₂, refl, subst, sym}
+use mathlib.Core.Logic.{_≢_, _⊎_, inl, inr}
+use mathlib.Core.Bool.{Bool, _&&_, _||_, cond, false, not, true}
+use lib.Bits.{and-le-l, and-le-r, bitAnd, bitOr, or-add-and, or-lt}
 use lib.Count.{ones, ones-step, trailingZeros, under}
-use lib.Pow.{pow-pos, pow-lt}
-use Rattle.words.specs.Sets.{digit, has, built, insert, union, intersection, below, complement, subset, empty, lowest, size}
-use Rattle.words.proofs.Digits.{digit-lt, digit-zero, digit-suc, digit-and, digit-or, digit-past, digit-none, same-digits, double}
-use Rattle.words.proofs.Digits.{power-here, power-elsewhere, digit-above, digit-top, digit-ones, digit-not}
+use lib.Dec.{T, T-not, eqb, eqb-refl, eqb→eq, lit<, not-T}
+use lib.Pow.{pow-lt, pow-mono, pow-pos}
+use native.Mathlib.Decide.{decLt, ℕ-discrete}
+use native.Mathlib.Nat.{lt-of-lt-of-le, not-suc-le-zero}
+use native.Mathlib.Numerals.{add-one}
+use native.Mathlib.Omega.{arith}
+use Prim.Native.Nat.{_%_, _+_, _-_, _/_, _<_, _^_, _≤_, max, min, suc, zero, ℕ}
+use Rattle.words.proofs.Digits.{digit-above, digit-and, digit-lt, digit-none, digit-not, digit-ones, digit-or, digit-past, digit-suc}
+use Rattle.words.proofs.Digits.{digit-top, digit-zero, double, power-elsewhere, power-here, same-digits}
+use Rattle.words.specs.Sets.{below, built, complement, digit, empty, has, insert, intersection, lowest, size, subset, union}
 
 -- digits and tests of them
 pub has-one : (w t : ℕ) → T (has w t) → digit w t ≡ 1
@@ -168,6 +169,70 @@ pub complement-lt : (s w : ℕ) → complement s w < 2 ^ s
 unfolding complement
 complement-lt s w = built-lt s (λ t. not (has w t))
 
+-- an intersection is at most either word, and a union at least
+pub intersection-le : (a b : ℕ) → intersection a b ≤ a
+unfolding intersection
+intersection-le a b = and-le-l a b
+
+pub intersection-le-r : (a b : ℕ) → intersection a b ≤ b
+unfolding intersection
+intersection-le-r a b = and-le-r a b
+
+pub union-ge : (a b : ℕ) → a ≤ union a b
+unfolding union
+union-ge a b = omega (arith, or-add-and a b, and-le-r a b)
+
+-- a set is built number by number
+pub built-none : (f : ℕ → Bool) → built 0 f ≡ 0
+unfolding built
+built-none f = refl
+
+pub built-in : (n : ℕ) (f : ℕ → Bool) → f n ≡ true → insert (built n f) n ≡ built (n + 1) f
+built-in n f e =
+    same-members (n + 1) (insert (built n f) n) (built (n + 1) f) (insert-lt (n + 1) (built n f) n wider (omega arith)) (built-lt (n + 1) f)
+    (λ t l. at t (ℕ-discrete n t) l ∙ sym (has-built (n + 1) f t l))
+  where
+    wider : built n f < 2 ^ (n + 1)
+    wider = lt-of-lt-of-le (built-lt n f) (pow-mono (omega arith))
+
+    at : (t : ℕ) → Dec (n ≡ t) → t < n + 1 → has (insert (built n f) n) t ≡ f t
+    at t (yes p) l = rw (← p) (ap (λ d. eqb d 1) (has-one (insert (built n f) n) n (has-insert (built n f) n)) ∙ sym e)
+    at t (no p) l = insert-others (built n f) n t p ∙ has-built n f t (omega arith)
+
+pub built-out : (n : ℕ) (f : ℕ → Bool) → f n ≡ false → built n f ≡ built (n + 1) f
+unfolding built
+built-out n f e = rw (add-one n, e) (omega arith)
+
+-- operations on built sets
+pub built-empty : (n : ℕ) → built n (λ t. false) ≡ 0
+built-empty n =
+    same-members n (built n (λ t. false)) 0 (built-lt n (λ t. false)) (pow-pos n) (λ t l. has-built n (λ t. false) t l ∙ sym (has-none t))
+
+pub built-below : (n : ℕ) → built n (λ t. true) ≡ below n
+built-below n =
+    same-members n (built n (λ t. true)) (below n) (built-lt n (λ t. true)) (below-lt n)
+    (λ t l. has-built n (λ t. true) t l ∙ sym (has-below n t l))
+
+pub built-union : (n : ℕ) (f g : ℕ → Bool) → union (built n f) (built n g) ≡ built n (λ t. f t || g t)
+built-union n f g =
+    same-members n (union (built n f) (built n g)) (built n (λ t. f t || g t))
+    (union-lt n (built n f) (built n g) (built-lt n f) (built-lt n g)) (built-lt n (λ t. f t || g t))
+    (λ t l.
+    has-union (built n f) (built n g) t
+    ∙ (ap₂ (λ a b. a || b) (has-built n f t l) (has-built n g t l) ∙ sym (has-built n (λ t. f t || g t) t l)))
+
+pub built-intersection : (n : ℕ) (f g : ℕ → Bool) → intersection (built n f) (built n g) ≡ built n (λ t. f t && g t)
+built-intersection n f g =
+    same-members n (intersection (built n f) (built n g)) (built n (λ t. f t && g t))
+    (intersection-lt n (built n f) (built n g) (built-lt n f)) (built-lt n (λ t. f t && g t))
+    (λ t l.
+    has-intersection (built n f) (built n g) t
+    ∙ (ap₂ (λ a b. a && b) (has-built n f t l) (has-built n g t l) ∙ sym (has-built n (λ t. f t && g t) t l)))
+
+pub built-complement : (n : ℕ) (f : ℕ → Bool) → complement n (built n f) ≡ built n (λ t. not (f t))
+unfolding complement
+built-complement n f = built-same n (λ t. not (has (built n f) t)) (λ t. not (f t)) (λ t l. ap not (has-built n f t l))
+
 -- the complement is all ones of k digits less w, cut to s digits
 flip-test : (d : ℕ) → d < 2 → eqb (1 - d) 1 ≡ not (eqb d 1)
 flip-test zero p = refl
@@ -229,6 +294,23 @@ some-member (suc k) w p z = go (w % 2) refl (some-member k (w / 2) (omega (arith
         (suc t, omega (arith, l), one-has w (suc t) (digit-suc w t ∙ has-one (w / 2) t h))
     go (suc zero) e ih = (0, omega arith, one-has w 0 (digit-zero w ∙ e))
     go (suc (suc d)) e ih = absurd (omega arith)
+
+-- words that have a common member
+pub meet-in : (a b t : ℕ) → T (has a t) → T (has b t) → T (not (empty (intersection a b)))
+unfolding intersection
+meet-in a b t h i =
+    let o : digit (bitAnd a b) t ≡ 1 = digit-and a b t ∙ omega (arith, has-one a t h, has-one b t i) in
+    not-T (empty (bitAnd a b)) (λ e. subst T (empty-out (bitAnd a b) e t) (one-has (bitAnd a b) t o))
+
+pub meet-out : (k a b : ℕ) → a < 2 ^ k → T (not (empty (intersection a b))) → (t : ℕ) × (t < k) × T (has a t) × T (has b t)
+unfolding intersection empty
+meet-out k a b p h =
+    let (t, l, m) =
+    some-member k (bitAnd a b) (omega (arith, and-le-l a b)) (λ e. T-not (eqb (bitAnd a b) 0) h (subst (λ w. T (eqb w 0)) (sym e) tt))
+    in
+    let d = digit-and a b t in
+    let o = has-one (bitAnd a b) t m in
+    (t, l, one-has a t (omega (arith, digit-lt a t)), one-has b t (omega (arith, digit-lt b t)))
 
 -- ---- the lowest member
 low-test : (d x : ℕ) → d < 2 → under d x ≡ cond (eqb d 1) 0 (suc x)

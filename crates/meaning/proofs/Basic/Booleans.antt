@@ -44,6 +44,13 @@ pub dec-T : (b : Bool) → T b ⊎ T (not b)
 dec-T true = inl tt
 dec-T false = inr tt
 
+-- tests that pass together are equal
+pub test-eq : (a b : Bool) → (T a → T b) → (T b → T a) → a ≡ b
+test-eq true true h k = refl
+test-eq true false h k = absurd (h tt)
+test-eq false true h k = absurd (k tt)
+test-eq false false h k = refl
+
 -- two tests that agree
 pub beq-eq : (a b : Bool) → T (Bool·beq a b) → a ≡ b
 beq-eq true true h = refl

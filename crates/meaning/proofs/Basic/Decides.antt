@@ -1,9 +1,10 @@
 -- Tests that decide a property of the numbers below a bound, or of pairs of them.
+use mathlib.Core.Path.{_≡_}
 use mathlib.Core.Logic.{_⊎_, inl, inr}
 use mathlib.Core.Bool.{Bool, _&&_, _||_, not}
 use lib.Dec.{T, T-not, not-T}
 use Prim.Native.Nat.{_<_, ℕ}
-use Rattle.meaning.proofs.Basic.Booleans.{and-in, conj, dec-T, or-l, or-out, or-r}
+use Rattle.meaning.proofs.Basic.Booleans.{and-in, conj, dec-T, or-l, or-out, or-r, test-eq}
 
 -- b is a test of P below n
 pub record Decides (n : ℕ) (b : ℕ → Bool) (P : ℕ → Type 0) : Type 0 where
@@ -20,6 +21,10 @@ decide {b} p x l = elim (dec-T (b x)) [ inl h ↦ inl (p .sound x l h) | inr h �
 
 pub stable : {n : ℕ} {b : ℕ → Bool} {P : ℕ → Type 0} → Decides n b P → (x : ℕ) → x < n → ((P x → ⊥) → ⊥) → P x
 stable d x l h = elim (decide d x l) [ inl a ↦ a | inr b ↦ absurd (h b) ]
+
+-- two tests of one property agree
+pub same-tests : {n : ℕ} {b c : ℕ → Bool} {P : ℕ → Type 0} → Decides n b P → Decides n c P → (x : ℕ) → x < n → b x ≡ c x
+same-tests {b = b} {c = c} p q x l = test-eq (b x) (c x) (λ h. q .whole x l (p .sound x l h)) (λ h. p .whole x l (q .sound x l h))
 
 -- the tests of compound statements
 pub test-decides : {n : ℕ} (p : ℕ → Bool) → Decides n p (λ x. T (p x))

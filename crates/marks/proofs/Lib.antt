@@ -1,0 +1,11 @@
+-- Tests as words; rows of successor words as steps; the loops of EG and EU
+pub mod Tests
+pub mod Component
+pub mod FixedPoints
+-- the rules: as the code makes them, and what they mean
+pub mod Rules
+pub mod Described
+-- for a whole formula on a component's table
+pub mod Formulas
+pub mod Signals
+pub mod Tables
