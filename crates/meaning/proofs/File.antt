@@ -10,7 +10,6 @@ pub mod NodeLists
 pub mod Reads
 pub mod Accepted
 pub mod Limit
-pub mod Cases
 pub mod Tables
 pub mod Formulas
 pub mod Nodes

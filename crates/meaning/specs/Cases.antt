@@ -124,7 +124,7 @@ abbrev pub lamps : List ℕ
 lamps = 1 ∷ 2 ∷ 2 ∷ 0 ∷ 2 ∷ 0 ∷ 1 ∷ 0 ∷ 2 ∷ 1 ∷ 2 ∷ 1 ∷ 1 ∷ 0 ∷ 0 ∷ []
 
 -- The starred cases. Rows beside them: the chain's listing (classes, combinations), which merged state a start has, no starts, bits of nodes
--- that are not under the root, states that differ only in a signal that the root does not name, and bytes after the last start.
+-- that are not under the root, states that differ only in a signal that the root does not name, and files for every refusal's number.
 abbrev pub cases : List Case
 cases =
     row chainEG (pass 0 0)
@@ -156,4 +156,31 @@ cases =
     ∷ row chainSpare (mergedWords (4 ∷ []))
     ∷ row lamps (classes 0 (0 ∷ 0 ∷ []))
     ∷ row (pair (0 ∷ 0 ∷ [])) (refused 10)
+    -- a fifth byte above 15, with no byte after it and with one; a fifth byte of 15 is good, and the number is then out of range
+    ∷ row (128 ∷ 128 ∷ 128 ∷ 128 ∷ 16 ∷ []) (refused 2)
+    ∷ row (255 ∷ 255 ∷ 255 ∷ 255 ∷ 16 ∷ 0 ∷ []) (refused 2)
+    ∷ row (255 ∷ 255 ∷ 255 ∷ 255 ∷ 15 ∷ []) (refused 3)
+    -- 33 states
+    ∷ row (1 ∷ 0 ∷ 33 ∷ []) (refused 3)
+    -- a signal not ascending, twice the same, not below W; one that is an own input too counts as not ascending first
+    ∷ row (1 ∷ 2 ∷ 1 ∷ 0 ∷ 2 ∷ 1 ∷ 0 ∷ []) (refused 4)
+    ∷ row (1 ∷ 2 ∷ 1 ∷ 0 ∷ 2 ∷ 1 ∷ 1 ∷ []) (refused 4)
+    ∷ row (1 ∷ 1 ∷ 1 ∷ 0 ∷ 1 ∷ 1 ∷ []) (refused 4)
+    ∷ row (1 ∷ 2 ∷ 1 ∷ 1 ∷ 0 ∷ 2 ∷ 1 ∷ 0 ∷ []) (refused 4)
+    -- an output that is an own input, and one that another component drives
+    ∷ row (1 ∷ 1 ∷ 1 ∷ 1 ∷ 0 ∷ 1 ∷ 0 ∷ []) (refused 5)
+    ∷ row (2 ∷ 1 ∷ 1 ∷ 0 ∷ 1 ∷ 0 ∷ 0 ∷ 1 ∷ 1 ∷ 0 ∷ 1 ∷ 0 ∷ []) (refused 5)
+    -- an output word and a successor set with a bit too high, an empty successor set
+    ∷ row (1 ∷ 0 ∷ 1 ∷ 0 ∷ 0 ∷ 1 ∷ []) (refused 6)
+    ∷ row (1 ∷ 0 ∷ 1 ∷ 0 ∷ 0 ∷ 0 ∷ 2 ∷ []) (refused 6)
+    ∷ row (1 ∷ 0 ∷ 1 ∷ 0 ∷ 0 ∷ 0 ∷ 0 ∷ []) (refused 6)
+    -- an unknown kind, before its operands, and an operand that is the node itself
+    ∷ row (1 ∷ 0 ∷ 1 ∷ 0 ∷ 0 ∷ 0 ∷ 1 ∷ 1 ∷ 7 ∷ []) (refused 7)
+    ∷ row (1 ∷ 0 ∷ 1 ∷ 0 ∷ 0 ∷ 0 ∷ 1 ∷ 1 ∷ 2 ∷ 0 ∷ []) (refused 7)
+    -- a signal that no component drives, and one that is none
+    ∷ row (1 ∷ 1 ∷ 1 ∷ 0 ∷ 0 ∷ 0 ∷ 1 ∷ 1 ∷ 1 ∷ 0 ∷ []) (refused 8)
+    ∷ row (1 ∷ 0 ∷ 1 ∷ 0 ∷ 0 ∷ 0 ∷ 1 ∷ 1 ∷ 1 ∷ 0 ∷ []) (refused 8)
+    -- a start that is no state, and a byte after the last start
+    ∷ row (1 ∷ 0 ∷ 1 ∷ 0 ∷ 0 ∷ 0 ∷ 1 ∷ 1 ∷ 0 ∷ 1 ∷ 1 ∷ []) (refused 9)
+    ∷ row (1 ∷ 0 ∷ 1 ∷ 0 ∷ 0 ∷ 0 ∷ 1 ∷ 1 ∷ 0 ∷ 0 ∷ 0 ∷ []) (refused 10)
     ∷ []

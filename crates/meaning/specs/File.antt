@@ -3,4 +3,3 @@ pub mod Parser
 pub mod Number
 pub mod Grammar
 pub mod Promise
-pub mod Cases
