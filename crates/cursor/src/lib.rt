@@ -1,0 +1,116 @@
+// A place in an instrument file, and the numbers read from it (document 01, The instrument file). Each contract equates the answer with what
+// the grammar of crate meaning says at that place (specs/File/Grammar), for every sequence of bytes.
+ghost use mathlib.Core.Path.{_≡_};
+ghost use Prim.Native.Nat.{_≤_};
+ghost use lib.ListN.{drop};
+ghost use Rattle.meaning.specs.File.Number.{groups};
+ghost use Rattle.meaning.specs.File.Grammar as grammar;
+ghost use Rattle.cursor.specs.Answers.{number, got};
+
+// Why a call is refused, in the order of document 01's numbers, 1 to 14.
+pub enum Refusal {
+    Ended,
+    Form,
+    Range,
+    Order,
+    Driven,
+    Bits,
+    Formula,
+    Undriven,
+    Start,
+    Trailing,
+    FullSize,
+    MergedSize,
+    Short,
+    Clash,
+}
+
+// A place in the file.
+pub struct Cursor {
+    pub at: usize,
+}
+
+// A number with the place after it, or why it is refused.
+pub enum Read {
+    Number(u32, Cursor),
+    Refused(Refusal),
+}
+
+// The number from the place `at` on, of at most more + 1 groups; a group in the last possible place is at most 15.
+fn groups(file: &[u8], at: usize, more: u32) -> Read
+    requires { ⌜ more ≤ 4 ⌝ }
+    ensures { λ r. ⌜ got r ≡ groups 15 more (drop at (now (file .entry))) at ⌝ }
+{
+    if file.len() <= at {
+        return Read::Refused(Refusal::Ended);
+    }
+    let b = file[at] as u32;
+    if more == 0 {
+        if 15 < b {
+            return Read::Refused(Refusal::Form);
+        }
+        return Read::Number(b, Cursor { at: at + 1 });
+    }
+    if b < 128 {
+        return Read::Number(b, Cursor { at: at + 1 });
+    }
+    match groups(file, at + 1, more - 1) {
+        Read::Refused(cause) => Read::Refused(cause),
+        Read::Number(v, next) => {
+            if v == 0 {
+                Read::Refused(Refusal::Form)
+            } else {
+                Read::Number(b % 128 + 128 * v, next)
+            }
+        }
+    }
+}
+
+impl Cursor {
+    // The beginning of a file.
+    pub fn start() -> Self
+        ensures { λ r. ⌜ r ≡ record { at = 0 } ⌝ }
+    {
+        Cursor { at: 0 }
+    }
+
+    // The number at this place.
+    pub fn number(self, file: &[u8]) -> Read
+        ensures { λ r. ⌜ got r ≡ grammar.number grammar.limits (now (file .entry)) (self .at) ⌝ }
+    {
+        groups(file, self.at, 4)
+    }
+
+    // The number at this place if it is one from lo to hi, else the cause.
+    pub fn between(self, file: &[u8], lo: u32, hi: u32, cause: Refusal) -> Read
+        ensures { λ r. ⌜ got r ≡ grammar.between grammar.limits lo hi (number cause) (now (file .entry)) (self .at) ⌝ }
+    {
+        match self.number(file) {
+            Read::Refused(earlier) => Read::Refused(earlier),
+            Read::Number(v, next) => {
+                if v < lo {
+                    return Read::Refused(cause);
+                }
+                if hi < v {
+                    return Read::Refused(cause);
+                }
+                Read::Number(v, next)
+            }
+        }
+    }
+
+    // The number at this place if it is below a bound, else the cause.
+    pub fn less_than(self, file: &[u8], bound: u32, cause: Refusal) -> Read
+        ensures { λ r. ⌜ got r ≡ grammar.lessThan grammar.limits bound (number cause) (now (file .entry)) (self .at) ⌝ }
+    {
+        match self.number(file) {
+            Read::Refused(earlier) => Read::Refused(earlier),
+            Read::Number(v, next) => {
+                if bound <= v {
+                    return Read::Refused(cause);
+                }
+                Read::Number(v, next)
+            }
+        }
+    }
+}
