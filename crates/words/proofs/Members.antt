@@ -143,9 +143,9 @@ insert-iff w t u =
     elim (ℕ-discrete t u) [
       | yes e ↦ (λ h. inr e, λ h. subst (λ u. T (has (insert w t) u)) e (has-insert w t))
       | no z ↦ (
-          λ h. inl (subst T (insert-others w t u z) h),
-          λ h. elim h [ inl i ↦ subst T (sym (insert-others w t u z)) i | inr e ↦ absurd (z e) ],
-        )
+        λ h. inl (subst T (insert-others w t u z) h),
+        λ h. elim h [ inl i ↦ subst T (sym (insert-others w t u z)) i | inr e ↦ absurd (z e) ],
+      )
     ]
 
 -- a power is the set of its exponent
