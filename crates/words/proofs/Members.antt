@@ -1,6 +1,6 @@
 -- What the definitions of specs/Sets say of membership: laws over ℕ, for every width.
 use mathlib.Core.Path.{_∙_, _≡_, ap, ap₂, refl, subst, sym}
-use mathlib.Core.Logic.{_≢_, _⊎_, inl, inr}
+use mathlib.Core.Logic.{_↔_, _≢_, _⊎_, inl, inr}
 use mathlib.Core.Bool.{Bool, _&&_, _||_, cond, false, not, true}
 use lib.Bits.{and-le-l, and-le-r, bitAnd, bitOr, or-add-and, or-lt}
 use lib.Count.{ones, ones-step, trailingZeros, under}
@@ -148,6 +148,24 @@ insert-in w t u h =
 
 pub insert-out : (w t u : ℕ) → T (has (insert w t) u) → T (has w u) ⊎ (t ≡ u)
 insert-out w t u h = elim (ℕ-discrete t u) [ yes e ↦ inr e | no z ↦ inl (subst T (insert-others w t u z) h) ]
+-- w and t besides has what w has, and t
+pub insert-iff : (w t u : ℕ) → T (has (insert w t) u) ↔ (T (has w u) ⊎ (t ≡ u))
+insert-iff w t u =
+    elim (ℕ-discrete t u) [
+      | yes e ↦ (λ h. inr e, λ h. subst (λ u. T (has (insert w t) u)) e (has-insert w t))
+      | no z ↦ (
+        λ h. inl (subst T (insert-others w t u z) h),
+        λ h. elim h [ inl i ↦ subst T (sym (insert-others w t u z)) i | inr e ↦ absurd (z e) ],
+      )
+    ]
+
+-- a power is the set of its exponent
+pub power-iff : (t u : ℕ) → T (has (2 ^ t) u) ↔ (t ≡ u)
+power-iff t u =
+    elim (ℕ-discrete t u) [
+      | yes e ↦ (λ h. e, λ h. subst (λ u. T (has (2 ^ t) u)) e (one-has (2 ^ t) t (power-here t)))
+      | no z ↦ (λ h. absurd (subst T (not-has (2 ^ t) u (power-elsewhere t u z)) h), λ e. absurd (z e))
+    ]
 
 pub insert-lt : (k w t : ℕ) → w < 2 ^ k → t < k → insert w t < 2 ^ k
 unfolding insert
@@ -254,6 +272,32 @@ pub complement-whole : (k w : ℕ) → w < 2 ^ k → (2 ^ k - 1) - w ≡ complem
 complement-whole k w p =
     same-members k ((2 ^ k - 1) - w) (complement k w) (omega (arith, pow-pos k)) (complement-lt k w)
     (λ t l. ap (λ d. eqb d 1) (digit-not k w t p l) ∙ (flip-test (digit w t) (digit-lt w t) ∙ sym (has-complement k w t l)))
+
+-- what is in a and not in b, of the first k numbers
+minus-test : (x y : Bool) → T (x && not y) ↔ (T x × (T y → ⊥))
+minus-test true true = (λ h. absurd h, λ h. h .1 tt)
+minus-test true false = (λ h. (tt, λ z. z), λ h. tt)
+minus-test false y = (λ h. absurd h, λ h. h .0)
+
+module _ (k a b t : ℕ) (l : t < k) where
+  difference-test : has (intersection a (complement k b)) t ≡ (has a t && not (has b t))
+  difference-test = has-intersection a (complement k b) t ∙ ap (λ c. has a t && c) (has-complement k b t l)
+
+  pub difference-iff : T (has (intersection a (complement k b)) t) ↔ (T (has a t) × (T (has b t) → ⊥))
+  difference-iff =
+      let m = minus-test (has a t) (has b t) in
+      (λ h. m .0 (subst T difference-test h), λ h. subst T (sym difference-test) (m .1 h))
+
+  -- it is smaller where a number of a is taken out
+  pub difference-less : T (has a t) → T (has b t) → intersection a (complement k b) < a
+  unfolding intersection
+  difference-less i j =
+      elim (decLt (intersection a (complement k b)) a) [
+        | yes p ↦ p
+        | no p ↦
+            let e : intersection a (complement k b) ≡ a = omega (arith, and-le-l a (complement k b)) in
+            absurd (difference-iff .0 (subst (λ w. T (has w t)) (sym e) i) .1 j)
+      ]
 
 pub subset-out : (a b : ℕ) → T (subset a b) → (t : ℕ) → T (has a t) → T (has b t)
 unfolding subset intersection
