@@ -1,13 +1,13 @@
 -- The digits of a word, as numbers 0 and 1, over ℕ: of the lowest digit and the rest, of a power, of bitwise operations, of words below a
--- power. A word of k digits is fixed by them.
+-- power, of shifted words. A word of k digits is fixed by them.
 use mathlib.Core.Path.{_≡_, refl, sym, ap, _∙_}
 use Prim.Native.Nat.{ℕ, zero, suc, _+_, _-_, _*_, _/_, _%_, _^_, min, max, _≤_, _<_, zero-le}
-use native.Mathlib.Nat.{one-mul, mod-eq-of-lt, mod-lt, div-eq-of-lt, lt-of-lt-of-le, pow-suc, div-one, not-suc-le-zero}
+use native.Mathlib.Nat.{one-mul, mod-eq-of-lt, mod-lt, div-eq-of-lt, lt-of-lt-of-le, pow-suc, div-one, mul-one, not-suc-le-zero}
 use native.Mathlib.Numerals.{add-one}
 use native.Mathlib.Omega.{arith}
 use lib.Dec.{lit<}
-use lib.Bits.{bitAnd, bitOr, and-shr, or-shr, and-step, or-step}
-use lib.Pow.{pow-pos, pow-mono, pow-lt, shr-shr, shr-lt}
+use lib.Bits.{bitAnd, bitOr, and-shr, or-shr, and-step, or-step, shifted-half, shifted-even}
+use lib.Pow.{pow-pos, pow-mono, pow-lt, shr-shr, shr-lt, field, mod-mod-pow}
 use Rattle.words.specs.Sets.{digit}
 
 pub digit-lt : (w t : ℕ) → digit w t < 2
@@ -110,3 +110,28 @@ digit-not (suc k) w zero p h = rw (digit-zero ((2 ^ suc k - 1) - w), digit-zero 
 digit-not (suc k) w (suc t) p h =
     let e : ((2 ^ suc k - 1) - w) / 2 ≡ (2 ^ k - 1) - w / 2 = omega (arith, double k, pow-pos k) in
     rw (digit-suc ((2 ^ suc k - 1) - w) t, digit-suc w t, e) (digit-not k (w / 2) t (omega (arith, double k)) (omega arith))
+
+-- ---- shifted words: the code's `v << b` is v * 2 ^ b cut to the word's digits, `v >> c` is v / 2 ^ c
+pub digit-cut : (k w t : ℕ) → t < k → digit (w % 2 ^ k) t ≡ digit w t
+digit-cut zero w t h = absurd (not-suc-le-zero h)
+digit-cut (suc k) w zero h =
+    let e : w % 2 ^ suc k % 2 ≡ w % 2 = rw (← add-one k) (mod-mod-pow w k 1) in
+    digit-zero (w % 2 ^ suc k) ∙ e ∙ sym (digit-zero w)
+digit-cut (suc k) w (suc t) h =
+    let e : w % 2 ^ suc k / 2 ≡ w / 2 % 2 ^ k = rw (← add-one k) (field w k 1) in
+    digit-suc (w % 2 ^ suc k) t ∙ rw e (digit-cut k (w / 2) t (omega arith)) ∙ sym (digit-suc w t)
+
+pub digit-raised : (w b t : ℕ) → digit (w * 2 ^ b) (b + t) ≡ digit w t
+digit-raised w zero t = let e : zero + t ≡ t = omega arith in rw (e, mul-one w)
+digit-raised w (suc b) t =
+    let e : suc b + t ≡ suc (b + t) = omega arith in
+    rw e (digit-suc (w * 2 ^ suc b) (b + t) ∙ rw (shifted-half w b) (digit-raised w b t))
+
+pub digit-under : (w b t : ℕ) → t < b → digit (w * 2 ^ b) t ≡ 0
+digit-under w zero t h = absurd (not-suc-le-zero h)
+digit-under w (suc b) zero h = digit-zero (w * 2 ^ suc b) ∙ shifted-even w b
+digit-under w (suc b) (suc t) h = digit-suc (w * 2 ^ suc b) t ∙ rw (shifted-half w b) (digit-under w b t (omega arith))
+
+pub digit-lowered : (w c t : ℕ) → digit (w / 2 ^ c) t ≡ digit w (c + t)
+unfolding digit
+digit-lowered w c t = rw (shr-shr w c t)

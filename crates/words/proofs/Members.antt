@@ -355,6 +355,38 @@ meet-out k a b p h =
     let d = digit-and a b t in
     let o = has-one (bitAnd a b) t m in
     (t, l, one-has a t (omega (arith, digit-lt a t)), one-has b t (omega (arith, digit-lt b t)))
+-- ---- one member less, in words of k digits
+module _ (k w t : ℕ) where
+  abbrev rest : ℕ
+  rest = intersection w (complement k (insert 0 t))
+
+  pub less-out : (u : ℕ) → T (has rest u) → (t ≢ u) × T (has w u)
+  less-out u h =
+      let (p, q) = both (has w u) (has (complement k (insert 0 t)) u) (subst T (has-intersection w (complement k (insert 0 t)) u) h) in
+      let l : u < k = has-lt k (complement k (insert 0 t)) u (complement-lt k (insert 0 t)) q in
+      (λ e.
+      T-not (has (insert 0 t) u) (subst T (has-complement k (insert 0 t) u l) q) (subst (λ u. T (has (insert 0 t) u)) e (has-insert 0 t)), p)
+    where
+      both : (a b : Bool) → T (a && b) → T a × T b
+      both true b h = (tt, h)
+      both false b h = absurd h
+
+  pub less-in : (u : ℕ) → u < k → t ≢ u → T (has w u) → T (has rest u)
+  less-in u l z h =
+      let e : has (complement k (insert 0 t)) u ≡ true = has-complement k (insert 0 t) u l ∙ ap not (insert-others 0 t u z ∙ has-none u) in
+      subst T (sym (has-intersection w (complement k (insert 0 t)) u ∙ (ap (λ b. has w u && b) e ∙ kept (has w u)))) h
+    where
+      kept : (c : Bool) → (c && true) ≡ c
+      kept true = refl
+      kept false = refl
+
+  pub less-falls : T (has w t) → rest < w
+  unfolding intersection
+  less-falls h =
+      elim (ℕ-discrete rest w) [
+        | yes e ↦ absurd (less-out t (subst (λ r. T (has r t)) (sym e) h) .0 refl)
+        | no z ↦ omega (arith, and-le-l w (complement k (insert 0 t)))
+      ]
 
 -- ---- the lowest member
 low-test : (d x : ℕ) → d < 2 → under d x ≡ cond (eqb d 1) 0 (suc x)
