@@ -19,12 +19,23 @@ use Rattle.meaning.proofs.File.Members.{all-at, all-member}
 use Rattle.meaning.proofs.File.Reads.{file-promised}
 use Rattle.meaning.proofs.File.Tables.{from-total}
 
+module _ (c : Contents) where
+  -- the instrument's tables are the components', one by one
+  pub count-is : components (instrumentOf c) ≡ length (c .components)
+  count-is = length-map (c .components) tableOf
+
+  pub table-is : (i : ℕ) → table (instrumentOf c) i ≡ tableOf (componentAt c i)
+  table-is i = List·getD-map tableOf (c .components) i noComponent
+
+  tables-are : table (instrumentOf c) ≡ (λ i. tableOf (componentAt c i))
+  tables-are = fun-ext table-is
+
 module _ (L : Limits) (c : Contents) (p : Promised L c) where
-  promised-at : (i : ℕ) → i < length (c .components) → PromisedComponent L (c .signals) (componentAt c i)
+  pub promised-at : (i : ℕ) → i < length (c .components) → PromisedComponent L (c .signals) (componentAt c i)
   promised-at i l = all-at (PromisedComponent L (c .signals)) (c .components) (p .components) noComponent i l
 
   -- the successor word of a state on an assignment
-  word-at : (t : Component) → PromisedComponent L (c .signals) t → (x a : ℕ) → x < t .states → a < 2 ^ length (t .inputs)
+  pub word-at : (t : Component) → PromisedComponent L (c .signals) t → (x a : ℕ) → x < t .states → a < 2 ^ length (t .inputs)
       → (getD (t .nexts) (2 ^ length (t .inputs) * x + a) 0 < 2 ^ t .states) × (getD (t .nexts) (2 ^ length (t .inputs) * x + a) 0 ≢ 0)
   word-at t q x a l k =
       let m : suc x * 2 ^ length (t .inputs) ≤ t .states * 2 ^ length (t .inputs) = mul-le-mul-right (2 ^ length (t .inputs)) l in
@@ -49,32 +60,22 @@ module _ (L : Limits) (c : Contents) (p : Promised L c) where
       apart i j l k z w o q =
           elim (decLt i j) [ yes h ↦ p .apart i j h k w o q | no h ↦ p .apart j i (omega arith) l w q o ]
 
-  -- the instrument's tables are the components', one by one
-  count-is : components (instrumentOf c) ≡ length (c .components)
-  count-is = length-map (c .components) tableOf
-
-  table-is : (i : ℕ) → table (instrumentOf c) i ≡ tableOf (componentAt c i)
-  table-is i = List·getD-map tableOf (c .components) i noComponent
-
-  tables-are : table (instrumentOf c) ≡ (λ i. tableOf (componentAt c i))
-  tables-are = fun-ext table-is
-
   pub accepted : Accepted (instrumentOf c)
   accepted =
       record {
         well-formed =
-            subst (λ n. WellFormed n (table (instrumentOf c)) (c .signals)) (sym count-is)
-            (subst (λ S. WellFormed (length (c .components)) S (c .signals)) (sym tables-are) well-formed-parts);
+            subst (λ n. WellFormed n (table (instrumentOf c)) (c .signals)) (sym (count-is c))
+            (subst (λ S. WellFormed (length (c .components)) S (c .signals)) (sym (tables-are c)) well-formed-parts);
         earlier = p .earlier;
         rooted = p .nodeCount .0;
         driven =
             λ k w e. let (i, l, o) = p .named k w e in
-            (i, omega (arith, l, count-is), subst (λ t. T (owns t w)) (sym (table-is i)) o);
+            (i, omega (arith, l, count-is c), subst (λ t. T (owns t w)) (sym (table-is c i)) o);
         starts =
             all-map (λ start h. (
-              h .0 ∙ sym count-is,
-              λ i l. subst (λ t. getD start i 0 < t .states) (sym (table-is i))
-                  (h .1 i (omega (arith, l, count-is))),
+              h .0 ∙ sym (count-is c),
+              λ i l. subst (λ t. getD start i 0 < t .states) (sym (table-is c i))
+                  (h .1 i (omega (arith, l, count-is c))),
             )) (c .starts) (p .starts);
       }
 
