@@ -8,7 +8,7 @@ use native.Mathlib.Decide.{decLt}
 use native.Mathlib.Omega.{arith}
 use Prim.Native.Nat.{_*_, _+_, _<_, _≤_, suc, zero, ℕ}
 use Rattle.words.specs.Sets.{has}
-use Rattle.meaning.specs.File.Grammar.{Limits, binary, node, nodes, operands as nodeOf, unary}
+use Rattle.meaning.specs.File.Grammar.{Limits, binary, earlier, node, nodes, operands as nodeOf, unary}
 use Rattle.meaning.specs.File.Parser.{Parser}
 use Rattle.meaning.specs.Nodes.{Earlier, Node, atom, eg, eu, ex, neg, nodeAt, or, top}
 use Rattle.meaning.specs.Reference.Nodes.{operands}
@@ -36,6 +36,9 @@ module _ (L : Limits) (W driven : ℕ) where
     before : T (allOf (λ i. ltb i k) (operands m))
     names : Named driven m
 
+  reads-earlier : (k : ℕ) → Reads (earlier L k) (width L) (λ v. v < k)
+  reads-earlier k = reads-less L _ _
+
   -- a node with one operand, and with two
   reads-unary : (k : ℕ) (f : ℕ → Node ℕ) {operand : Parser ℕ} {P : ℕ → Type 0} → Reads operand (width L) P
       → ((a : ℕ) → P a → NodeRead k (f a)) → Reads (unary L f operand) (2 * width L) (NodeRead k)
@@ -46,7 +49,7 @@ module _ (L : Limits) (W driven : ℕ) where
       → Reads (binary L f k) (2 * width L) (NodeRead k)
   reads-binary k f h =
       weaker (omega arith) (λ m q. q)
-      (reads-bind (reads-less L _ _) (λ a p. reads-bind (reads-less L _ _) (λ b q. reads-give (NodeRead k) (f a b) (h a b p q))))
+      (reads-bind (reads-earlier k) (λ a p. reads-bind (reads-earlier k) (λ b q. reads-give (NodeRead k) (f a b) (h a b p q))))
 
   one : (i k : ℕ) → i < k → T (ltb i k && true)
   one i k l = and-in (ltb i k) true (lt→ltb i k l) tt
@@ -57,14 +60,14 @@ module _ (L : Limits) (W driven : ℕ) where
   reads-operands : (k kind : ℕ) → Reads (nodeOf L W driven k kind) (2 * width L) (NodeRead k)
   reads-operands k zero = weaker (omega arith) (λ m q. q) (reads-give (NodeRead k) top (record { before = tt; names = tt }))
   reads-operands k (suc zero) =
-      reads-unary k atom (reads-named L W driven) (λ v h. record { before = tt; names = h })
+      reads-unary k atom (reads-named L _ _) (λ v h. record { before = tt; names = h })
   reads-operands k (suc (suc zero)) =
-      reads-unary k neg (reads-less L _ _) (λ v h. record { before = one v k h; names = tt })
+      reads-unary k neg (reads-earlier k) (λ v h. record { before = one v k h; names = tt })
   reads-operands k (suc (suc (suc zero))) = reads-binary k or (λ a b p q. record { before = two a b k p q; names = tt })
   reads-operands k (suc (suc (suc (suc zero)))) =
-      reads-unary k ex (reads-less L _ _) (λ v h. record { before = one v k h; names = tt })
+      reads-unary k ex (reads-earlier k) (λ v h. record { before = one v k h; names = tt })
   reads-operands k (suc (suc (suc (suc (suc zero))))) =
-      reads-unary k eg (reads-less L _ _) (λ v h. record { before = one v k h; names = tt })
+      reads-unary k eg (reads-earlier k) (λ v h. record { before = one v k h; names = tt })
   reads-operands k (suc (suc (suc (suc (suc (suc zero)))))) = reads-binary k eu (λ a b p q. record { before = two a b k p q; names = tt })
   reads-operands k (suc (suc (suc (suc (suc (suc (suc unknown))))))) = record { says = λ file at. tt; same = λ j file at h. refl }
 
