@@ -20,45 +20,49 @@ use Rattle.meaning.proofs.File.Members.{all-member}
 use Rattle.meaning.proofs.File.Numbers.{SignalRead, reads-between, reads-signal, width}
 use Rattle.meaning.proofs.File.Parsers.{Reads, reads-bind, reads-give, reads-list, weaker}
 
+-- ---- listed signals
+-- so many signals, none of them taken
+record SignalsRead (W taken k : ℕ) (vs : List ℕ) : Type 0 where
+  long : length vs ≡ k
+  ordered : Signals W vs
+  free : (w : ℕ) → T (listed vs w) → T (has taken w) → ⊥
+
+-- the next may only be higher than the one before
+module _ (W taken : ℕ) (next : ℕ → ℕ → ℕ) (higher : (low v : ℕ) → v < next low v) where
+  from-low : (low : ℕ) (vs : List ℕ) → Along (SignalRead W taken) next low vs → (j : ℕ) → j < length vs → low ≤ getD vs j 0
+  from-low low [] h j l = absurd (omega arith)
+  from-low low (v ∷ vs) h zero l = h .0 .from
+  from-low low (v ∷ vs) h (suc j) l = omega (arith, h .0 .from, higher low v, from-low (next low v) vs (h .1) j (omega arith))
+
+  ascending : (low : ℕ) (vs : List ℕ) → Along (SignalRead W taken) next low vs → (i j : ℕ) → i < j → j < length vs
+      → getD vs i 0 < getD vs j 0
+  ascending low [] h i j l k = absurd (omega arith)
+  ascending low (v ∷ vs) h i zero l k = absurd (omega arith)
+  ascending low (v ∷ vs) h zero (suc j) l k = omega (arith, higher low v, from-low (next low v) vs (h .1) j (omega arith))
+  ascending low (v ∷ vs) h (suc i) (suc j) l k = ascending (next low v) vs (h .1) i j (omega arith) (omega arith)
+
+  each-signal : (low : ℕ) (vs : List ℕ) → Along (SignalRead W taken) next low vs → All (λ v. (v < W) × (T (has taken v) → ⊥)) vs
+  each-signal low [] h = tt
+  each-signal low (v ∷ vs) h = ((h .0 .below, h .0 .free), each-signal (next low v) vs (h .1))
+
+  signals-read : (k low : ℕ) (vs : List ℕ) → Sequence (SignalRead W taken) next k low vs → SignalsRead W taken k vs
+  signals-read k low vs h =
+      let each = each-signal low vs (h .items) in
+      record {
+        long = h .long;
+        ordered = record { ascending = ascending low vs (h .items); below = all-map (λ v p. p .0) vs each };
+        free = λ w o t. all-member (λ v. (v < W) × (T (has taken v) → ⊥)) vs each w o .1 t;
+      }
+
+-- a successor set has a member, and none past the states
+set-word : (lo s v : ℕ) → 0 < lo → Within lo (2 ^ s - 1) v → (v ≢ 0) × (v < 2 ^ s)
+set-word lo s v l h = (λ z. omega (arith, z, h .0), lt-of-le-ones s (h .1))
+
 module _ (L : Limits) where
-  -- ---- listed signals
-  -- so many signals, none of them taken
-  record SignalsRead (W taken k : ℕ) (vs : List ℕ) : Type 0 where
-    long : length vs ≡ k
-    ordered : Signals W vs
-    free : (w : ℕ) → T (listed vs w) → T (has taken w) → ⊥
-
-  -- the next may only be higher than the one before
-  module _ (W taken : ℕ) (next : ℕ → ℕ → ℕ) (higher : (low v : ℕ) → v < next low v) where
-    from-low : (low : ℕ) (vs : List ℕ) → Along (SignalRead L W taken) next low vs → (j : ℕ) → j < length vs → low ≤ getD vs j 0
-    from-low low [] h j l = absurd (omega arith)
-    from-low low (v ∷ vs) h zero l = h .0 .from
-    from-low low (v ∷ vs) h (suc j) l = omega (arith, h .0 .from, higher low v, from-low (next low v) vs (h .1) j (omega arith))
-
-    ascending : (low : ℕ) (vs : List ℕ) → Along (SignalRead L W taken) next low vs → (i j : ℕ) → i < j → j < length vs
-        → getD vs i 0 < getD vs j 0
-    ascending low [] h i j l k = absurd (omega arith)
-    ascending low (v ∷ vs) h i zero l k = absurd (omega arith)
-    ascending low (v ∷ vs) h zero (suc j) l k = omega (arith, higher low v, from-low (next low v) vs (h .1) j (omega arith))
-    ascending low (v ∷ vs) h (suc i) (suc j) l k = ascending (next low v) vs (h .1) i j (omega arith) (omega arith)
-
-    each-signal : (low : ℕ) (vs : List ℕ) → Along (SignalRead L W taken) next low vs → All (λ v. (v < W) × (T (has taken v) → ⊥)) vs
-    each-signal low [] h = tt
-    each-signal low (v ∷ vs) h = ((h .0 .below, h .0 .free), each-signal (next low v) vs (h .1))
-
-    signals-read : (k low : ℕ) (vs : List ℕ) → Sequence (SignalRead L W taken) next k low vs → SignalsRead W taken k vs
-    signals-read k low vs h =
-        let each = each-signal low vs (h .items) in
-        record {
-          long = h .long;
-          ordered = record { ascending = ascending low vs (h .items); below = all-map (λ v p. p .0) vs each };
-          free = λ w o t. all-member (λ v. (v < W) × (T (has taken v) → ⊥)) vs each w o .1 t;
-        }
-
   reads-signals : (W taken k n : ℕ) → k ≤ n → Reads (signals L W taken k) (n * width L) (SignalsRead W taken k)
   reads-signals W taken k n l =
       weaker (omega arith) (λ vs h. signals-read W taken _ (λ low v. omega arith) k 0 vs h)
-      (reads-list (signal L W taken) _ (SignalRead L W taken) (reads-signal L W taken) k n l 0)
+      (reads-list (signal L W taken) _ (SignalRead W taken) (reads-signal L W taken) k n l 0)
 
   -- so many words, each in a range
   reads-words : (lo hi k n : ℕ) (Q : ℕ → Type 0) → ((v : ℕ) → Within lo hi v → Q v) → k ≤ n
@@ -68,10 +72,6 @@ module _ (L : Limits) where
       (reads-list (λ s. between L lo hi 6) (λ s a. s) (λ s. Within lo hi) (λ s. reads-between L lo hi 6) k n l done)
 
   -- ---- a component
-  -- a successor set has a member, and none past the states
-  set-word : (lo s v : ℕ) → 0 < lo → Within lo (2 ^ s - 1) v → (v ≢ 0) × (v < 2 ^ s)
-  set-word lo s v l h = (λ z. omega (arith, z, h .0), lt-of-le-ones s (h .1))
-
   -- how many numbers the largest one has
   abbrev pub componentNumbers : ℕ
   componentNumbers = 3 + L .inputs + L .outputs + L .states + L .states * 2 ^ L .inputs

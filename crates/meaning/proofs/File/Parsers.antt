@@ -14,7 +14,7 @@ use Rattle.meaning.proofs.File.Lists.{Says, Sequence, on-same, on-says,
 pub record Reads {A : Type 0} (p : Parser A) (b : ℕ) (Q : A → Type 0) : Type 0 where
   -- what is found is Q, and the place moves on by at most b
   pub says : (file : List ℕ) (at : ℕ) → Says (λ a e. Q a × (e ≤ at + b)) (p file at)
-  -- only the next b bytes, and whether the file ends there, have an influence
+  -- no byte from the place at + b on has an influence
   pub same : (k : ℕ) (file : List ℕ) (at : ℕ) → at + b ≤ k → p (take k file) at ≡ p file at
 
 -- what is promised can be less

@@ -19,6 +19,13 @@ pub record FileCase : Type 0 where
 abbrev row : List ℕ → Got Instrument → FileCase
 row file outcome = record { file = file; outcome = outcome }
 
+-- the chain, formula EG p, start 0; the pair, start (0,0)
+abbrev pub chainFile : List ℕ
+chainFile = 1 ∷ 1 ∷ 3 ∷ 0 ∷ 1 ∷ 0 ∷ 1 ∷ 1 ∷ 0 ∷ 2 ∷ 4 ∷ 4 ∷ 2 ∷ 1 ∷ 0 ∷ 5 ∷ 0 ∷ 1 ∷ 0 ∷ []
+
+abbrev pub pairFile : List ℕ
+pairFile = 2 ∷ 2 ∷ 2 ∷ 1 ∷ 1 ∷ 1 ∷ 0 ∷ 1 ∷ 0 ∷ 2 ∷ 1 ∷ 2 ∷ 2 ∷ 2 ∷ 0 ∷ 1 ∷ 1 ∷ 1 ∷ 0 ∷ 3 ∷ 2 ∷ 2 ∷ 1 ∷ 0 ∷ 5 ∷ 0 ∷ 1 ∷ 0 ∷ 0 ∷ []
+
 abbrev pub fileCases : List FileCase
 fileCases =
     -- starred: the empty file, a number cut short, one that is not the shortest, no component
@@ -27,10 +34,8 @@ fileCases =
     ∷ row (128 ∷ 0 ∷ []) (fault 2)
     ∷ row (0 ∷ []) (fault 3)
     -- the chain and the pair
-    ∷ row (1 ∷ 1 ∷ 3 ∷ 0 ∷ 1 ∷ 0 ∷ 1 ∷ 1 ∷ 0 ∷ 2 ∷ 4 ∷ 4 ∷ 2 ∷ 1 ∷ 0 ∷ 5 ∷ 0 ∷ 1 ∷ 0 ∷ []) (found chainEG 19)
-    ∷ row
-    (2 ∷ 2 ∷ 2 ∷ 1 ∷ 1 ∷ 1 ∷ 0 ∷ 1 ∷ 0 ∷ 2 ∷ 1 ∷ 2 ∷ 2 ∷ 2 ∷ 0 ∷ 1 ∷ 1 ∷ 1 ∷ 0 ∷ 3 ∷ 2 ∷ 2 ∷ 1 ∷ 0 ∷ 5 ∷ 0 ∷ 1 ∷ 0 ∷ 0 ∷ [])
-    (found (pair ((0 ∷ 0 ∷ []) ∷ [])) 29)
+    ∷ row chainFile (found chainEG 19)
+    ∷ row pairFile (found (pair ((0 ∷ 0 ∷ []) ∷ [])) 29)
     -- a fifth byte above 15, with no byte after it and with one; a fifth byte of 15 is good, and the number is then out of range
     ∷ row (128 ∷ 128 ∷ 128 ∷ 128 ∷ 16 ∷ []) (fault 2)
     ∷ row (255 ∷ 255 ∷ 255 ∷ 255 ∷ 16 ∷ 0 ∷ []) (fault 2)
