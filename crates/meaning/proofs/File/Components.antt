@@ -22,10 +22,10 @@ use Rattle.meaning.proofs.File.Parsers.{Reads, reads-bind, reads-give, 
 
 -- ---- listed signals
 -- so many signals, none of them taken
-record SignalsRead (W taken k : ℕ) (vs : List ℕ) : Type 0 where
-  long : length vs ≡ k
-  ordered : Signals W vs
-  free : (w : ℕ) → T (listed vs w) → T (has taken w) → ⊥
+pub record SignalsRead (W taken k : ℕ) (vs : List ℕ) : Type 0 where
+  pub long : length vs ≡ k
+  pub ordered : Signals W vs
+  pub free : (w : ℕ) → T (listed vs w) → T (has taken w) → ⊥
 
 -- the next may only be higher than the one before
 module _ (W taken : ℕ) (next : ℕ → ℕ → ℕ) (higher : (low v : ℕ) → v < next low v) where
@@ -59,13 +59,13 @@ set-word : (lo s v : ℕ) → 0 < lo → Within lo (2 ^ s - 1) v → (v ≢ 0) �
 set-word lo s v l h = (λ z. omega (arith, z, h .0), lt-of-le-ones s (h .1))
 
 module _ (L : Limits) where
-  reads-signals : (W taken k n : ℕ) → k ≤ n → Reads (signals L W taken k) (n * width L) (SignalsRead W taken k)
+  pub reads-signals : (W taken k n : ℕ) → k ≤ n → Reads (signals L W taken k) (n * width L) (SignalsRead W taken k)
   reads-signals W taken k n l =
       weaker (omega arith) (λ vs h. signals-read W taken _ (λ low v. omega arith) k 0 vs h)
       (reads-list (signal L W taken) _ (SignalRead W taken) (reads-signal L W taken) k n l 0)
 
   -- so many words, each in a range
-  reads-words : (lo hi k n : ℕ) (Q : ℕ → Type 0) → ((v : ℕ) → Within lo hi v → Q v) → k ≤ n
+  pub reads-words : (lo hi k n : ℕ) (Q : ℕ → Type 0) → ((v : ℕ) → Within lo hi v → Q v) → k ≤ n
       → Reads (repeat (between L lo hi 6) k) (n * width L) (λ vs. (length vs ≡ k) × All Q vs)
   reads-words lo hi k n Q f l =
       weaker (omega arith) (λ vs h. (h .long, all-map f vs (along-all (Within lo hi) done vs (h .items))))
@@ -76,12 +76,12 @@ module _ (L : Limits) where
   abbrev pub componentNumbers : ℕ
   componentNumbers = 3 + L .inputs + L .outputs + L .states + L .states * 2 ^ L .inputs
 
-  record ComponentRead (W driven : ℕ) (c : Component) : Type 0 where
-    itself : PromisedComponent L W c
+  pub record ComponentRead (W driven : ℕ) (c : Component) : Type 0 where
+    pub itself : PromisedComponent L W c
     -- none of its outputs was driven before
-    free : (w : ℕ) → T (listed (c .outputs) w) → T (has driven w) → ⊥
+    pub free : (w : ℕ) → T (listed (c .outputs) w) → T (has driven w) → ⊥
 
-  reads-component : (W driven : ℕ) → Reads (component L W driven) (componentNumbers * width L) (ComponentRead W driven)
+  pub reads-component : (W driven : ℕ) → Reads (component L W driven) (componentNumbers * width L) (ComponentRead W driven)
   unfolding component
   reads-component W driven =
       weaker (omega arith) (λ c h. h)

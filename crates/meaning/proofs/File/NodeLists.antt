@@ -21,7 +21,7 @@ use Rattle.meaning.proofs.File.Numbers.{reads-less, reads-named, reads-
 use Rattle.meaning.proofs.File.Parsers.{Reads, reads-bind, reads-give, reads-list, weaker}
 
 -- the signal that the node names, if it names one, is in the set
-abbrev Named : ℕ → Node ℕ → Type 0
+abbrev pub Named : ℕ → Node ℕ → Type 0
 Named driven top = Unit {0}
 Named driven (atom w) = T (has driven w)
 Named driven (neg i) = Unit {0}
@@ -31,9 +31,9 @@ Named driven (eg i) = Unit {0}
 Named driven (eu i j) = Unit {0}
 
 -- node k as it was read, and all nodes
-record NodeRead (driven k : ℕ) (m : Node ℕ) : Type 0 where
-  before : T (allOf (λ i. ltb i k) (operands m))
-  names : Named driven m
+pub record NodeRead (driven k : ℕ) (m : Node ℕ) : Type 0 where
+  pub before : T (allOf (λ i. ltb i k) (operands m))
+  pub names : Named driven m
 
 pub record NodesRead (driven n : ℕ) (ns : List (Node ℕ)) : Type 0 where
   pub long : length ns ≡ n
@@ -77,7 +77,7 @@ module _ (L : Limits) (W driven : ℕ) where
   reads-operands k (suc (suc (suc (suc (suc (suc zero)))))) = reads-binary k eu (λ a b p q. record { before = two a b k p q; names = tt })
   reads-operands k (suc (suc (suc (suc (suc (suc (suc unknown))))))) = record { says = λ file at. tt; same = λ j file at h. refl }
 
-  reads-node : (k : ℕ) → Reads (node L W driven k) (3 * width L) (NodeRead driven k)
+  pub reads-node : (k : ℕ) → Reads (node L W driven k) (3 * width L) (NodeRead driven k)
   unfolding node
   reads-node k = weaker (omega arith) (λ m q. q) (reads-bind (reads-number L) (λ kind u. reads-operands k kind))
 
