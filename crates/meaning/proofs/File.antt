@@ -1,4 +1,9 @@
 -- Tables, formulas and nodes of an instrument file.
+pub mod Tables
+pub mod Formulas
+pub mod Nodes
+pub mod Promise
+-- The grammar: lists, what parsers promise, accepted files, and the limit of what is read.
 pub mod Lists
 pub mod Progress
 pub mod Parsers
@@ -14,3 +19,4 @@ pub mod Tables
 pub mod Formulas
 pub mod Nodes
 pub mod Promise
+pub mod Cases

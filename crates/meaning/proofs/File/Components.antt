@@ -2,12 +2,12 @@
 use mathlib.Core.Path.{_≡_, subst, sym}
 use mathlib.Core.Logic.{_≢_}
 use mathlib.Core.List.{List, [], _∷_}
-use lib.Dec.{T}
+use lib.Dec.{T, lit<}
 use lib.ListN.{getD, length}
 use lib.Pow.{lt-of-le-ones, pow-mono}
 use native.Mathlib.Nat.{mul-le-mul}
 use native.Mathlib.Omega.{arith}
-use Prim.Native.Nat.{_*_, _+_, _<_, _^_, _≤_, suc, zero, ℕ}
+use Prim.Native.Nat.{_*_, _+_, _-_, _<_, _^_, _≤_, suc, zero, ℕ}
 use Rattle.words.specs.Sets.{has}
 use Rattle.meaning.specs.File.Grammar.{Component, Limits, between, component, components, signal, signals, withAll}
 use Rattle.meaning.specs.File.Parser.{done, repeat}
@@ -20,52 +20,52 @@ use Rattle.meaning.proofs.File.Members.{all-member}
 use Rattle.meaning.proofs.File.Numbers.{SignalRead, reads-between, reads-signal, width}
 use Rattle.meaning.proofs.File.Parsers.{Reads, reads-bind, reads-give, reads-list, weaker}
 
-module _ (L : Limits) where
-  -- ---- listed signals
-  from-first : (W taken low : ℕ) (vs : List ℕ) → Along (SignalRead L W taken) (λ low v. v + 1) low vs → (j : ℕ) → j < length vs
-      → low ≤ getD vs j 0
-  from-first W taken low [] h j l = absurd (omega arith)
-  from-first W taken low (v ∷ vs) h zero l = h .0 .from
-  from-first W taken low (v ∷ vs) h (suc j) l =
-      omega (arith, h .0 .from, from-first W taken (v + 1) vs (h .1) j (omega arith))
+-- ---- listed signals
+-- so many signals, none of them taken
+pub record SignalsRead (W taken k : ℕ) (vs : List ℕ) : Type 0 where
+  pub long : length vs ≡ k
+  pub ordered : Signals W vs
+  pub free : (w : ℕ) → T (listed vs w) → T (has taken w) → ⊥
 
-  ascending : (W taken low : ℕ) (vs : List ℕ) → Along (SignalRead L W taken) (λ low v. v + 1) low vs → (i j : ℕ) → i < j → j < length vs
+-- the next may only be higher than the one before
+module _ (W taken : ℕ) (next : ℕ → ℕ → ℕ) (higher : (low v : ℕ) → v < next low v) where
+  from-low : (low : ℕ) (vs : List ℕ) → Along (SignalRead W taken) next low vs → (j : ℕ) → j < length vs → low ≤ getD vs j 0
+  from-low low [] h j l = absurd (omega arith)
+  from-low low (v ∷ vs) h zero l = h .0 .from
+  from-low low (v ∷ vs) h (suc j) l = omega (arith, h .0 .from, higher low v, from-low (next low v) vs (h .1) j (omega arith))
+
+  ascending : (low : ℕ) (vs : List ℕ) → Along (SignalRead W taken) next low vs → (i j : ℕ) → i < j → j < length vs
       → getD vs i 0 < getD vs j 0
-  ascending W taken low [] h i j l k = absurd (omega arith)
-  ascending W taken low (v ∷ vs) h i zero l k = absurd (omega arith)
-  ascending W taken low (v ∷ vs) h zero (suc j) l k = omega (arith, from-first W taken (v + 1) vs (h .1) j (omega arith))
-  ascending W taken low (v ∷ vs) h (suc i) (suc j) l k = ascending W taken (v + 1) vs (h .1) i j (omega arith) (omega arith)
+  ascending low [] h i j l k = absurd (omega arith)
+  ascending low (v ∷ vs) h i zero l k = absurd (omega arith)
+  ascending low (v ∷ vs) h zero (suc j) l k = omega (arith, higher low v, from-low (next low v) vs (h .1) j (omega arith))
+  ascending low (v ∷ vs) h (suc i) (suc j) l k = ascending (next low v) vs (h .1) i j (omega arith) (omega arith)
 
-  each-signal : (W taken low : ℕ) (vs : List ℕ) → Along (SignalRead L W taken) (λ low v. v + 1) low vs
-      → All (λ v. (v < W) × (T (has taken v) → ⊥)) vs
-  each-signal W taken low [] h = tt
-  each-signal W taken low (v ∷ vs) h = ((h .0 .below, h .0 .free), each-signal W taken (v + 1) vs (h .1))
+  each-signal : (low : ℕ) (vs : List ℕ) → Along (SignalRead W taken) next low vs → All (λ v. (v < W) × (T (has taken v) → ⊥)) vs
+  each-signal low [] h = tt
+  each-signal low (v ∷ vs) h = ((h .0 .below, h .0 .free), each-signal (next low v) vs (h .1))
 
-  -- so many signals, none of them taken
-  pub record SignalsRead (W taken k : ℕ) (vs : List ℕ) : Type 0 where
-    pub long : length vs ≡ k
-    pub ordered : Signals W vs
-    pub free : (w : ℕ) → T (listed vs w) → T (has taken w) → ⊥
+  signals-read : (k low : ℕ) (vs : List ℕ) → Sequence (SignalRead W taken) next k low vs → SignalsRead W taken k vs
+  signals-read k low vs h =
+      let each = each-signal low vs (h .items) in
+      record {
+        long = h .long;
+        ordered = record { ascending = ascending low vs (h .items); below = all-map (λ v p. p .0) vs each };
+        free = λ w o t. all-member (λ v. (v < W) × (T (has taken v) → ⊥)) vs each w o .1 t;
+      }
 
-  reads-signals : (W taken k n : ℕ) → k ≤ n → Reads (signals L W taken k) (n * width L) (SignalsRead W taken k)
+-- a successor set has a member, and none past the states
+set-word : (lo s v : ℕ) → 0 < lo → Within lo (2 ^ s - 1) v → (v ≢ 0) × (v < 2 ^ s)
+set-word lo s v l h = (λ z. omega (arith, z, h .0), lt-of-le-ones s (h .1))
+
+module _ (L : Limits) where
+  pub reads-signals : (W taken k n : ℕ) → k ≤ n → Reads (signals L W taken k) (n * width L) (SignalsRead W taken k)
   reads-signals W taken k n l =
-      weaker (omega arith) made (reads-list (signal L W taken) (λ low v. v + 1) (SignalRead L W taken) (reads-signal L W taken) k n l 0)
-    where
-      made : (vs : List ℕ) → Sequence (SignalRead L W taken) (λ low v. v + 1) k 0 vs → SignalsRead W taken k vs
-      made vs h =
-          let each = each-signal W taken 0 vs (h .items) in
-          record {
-            long = h .long;
-            ordered =
-                record {
-                  ascending = ascending W taken 0 vs (h .items);
-                  below = all-map (λ v p. p .0) vs each;
-                };
-            free = λ w o t. all-member (λ v. (v < W) × (T (has taken v) → ⊥)) vs each w o .1 t;
-          }
+      weaker (omega arith) (λ vs h. signals-read W taken _ (λ low v. omega arith) k 0 vs h)
+      (reads-list (signal L W taken) _ (SignalRead W taken) (reads-signal L W taken) k n l 0)
 
   -- so many words, each in a range
-  reads-words : (lo hi k n : ℕ) (Q : ℕ → Type 0) → ((v : ℕ) → Within lo hi v → Q v) → k ≤ n
+  pub reads-words : (lo hi k n : ℕ) (Q : ℕ → Type 0) → ((v : ℕ) → Within lo hi v → Q v) → k ≤ n
       → Reads (repeat (between L lo hi 6) k) (n * width L) (λ vs. (length vs ≡ k) × All Q vs)
   reads-words lo hi k n Q f l =
       weaker (omega arith) (λ vs h. (h .long, all-map f vs (along-all (Within lo hi) done vs (h .items))))
@@ -76,12 +76,12 @@ module _ (L : Limits) where
   abbrev pub componentNumbers : ℕ
   componentNumbers = 3 + L .inputs + L .outputs + L .states + L .states * 2 ^ L .inputs
 
-  record ComponentRead (W driven : ℕ) (c : Component) : Type 0 where
-    itself : PromisedComponent L W c
+  pub record ComponentRead (W driven : ℕ) (c : Component) : Type 0 where
+    pub itself : PromisedComponent L W c
     -- none of its outputs was driven before
-    free : (w : ℕ) → T (listed (c .outputs) w) → T (has driven w) → ⊥
+    pub free : (w : ℕ) → T (listed (c .outputs) w) → T (has driven w) → ⊥
 
-  reads-component : (W driven : ℕ) → Reads (component L W driven) (componentNumbers * width L) (ComponentRead W driven)
+  pub reads-component : (W driven : ℕ) → Reads (component L W driven) (componentNumbers * width L) (ComponentRead W driven)
   unfolding component
   reads-component W driven =
       weaker (omega arith) (λ c h. h)
@@ -92,7 +92,7 @@ module _ (L : Limits) where
       reads-bind (reads-signals W _ o (L .outputs) (ho .1)) (λ outputs qo.
       reads-bind (reads-words _ _ s (L .states) (λ v. v < 2 ^ o) (λ v h. lt-of-le-ones o (h .1)) (hs .1)) (λ outs qw.
       reads-bind (reads-words _ _ (s * 2 ^ i) (L .states * 2 ^ L .inputs) (λ v. (v ≢ 0) × (v < 2 ^ s))
-      (λ v h. (λ z. omega (arith, z, h .0), lt-of-le-ones s (h .1))) (mul-le-mul (hs .1) (pow-mono (hi .1)))) (λ nexts qn.
+      (λ v h. set-word _ s v (lit< tt) h) (mul-le-mul (hs .1) (pow-mono (hi .1)))) (λ nexts qn.
       reads-give (ComponentRead W driven) (record { states = s; inputs = inputs; outputs = outputs; outs = outs; nexts = nexts })
       (record {
         itself =

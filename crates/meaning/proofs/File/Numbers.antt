@@ -59,6 +59,12 @@ groups-same top zero (suc m) (b ∷ bs) at l = refl
 groups-same top (suc more) (suc m) (b ∷ bs) at l =
     ap (λ g. choose (ltb b 128) (found b (suc at)) (withHigher (b % 128) g)) (groups-same top more m bs (suc at) (omega arith))
 
+-- a listed signal is from `low` on and below W, and is not taken
+pub record SignalRead (W taken low v : ℕ) : Type 0 where
+  pub from : low ≤ v
+  pub below : v < W
+  pub free : T (has taken v) → ⊥
+
 module _ (L : Limits) where
   -- the bytes of the longest number
   abbrev pub width : ℕ
@@ -73,7 +79,7 @@ module _ (L : Limits) where
             ∙ groups-same (L .lastGroup) (L .groupsBefore) (k - at) (drop at file) at (omega arith);
       }
 
-  -- a number that is tested by one test
+  -- a number that has to pass one test
   tested : (test : ℕ → Bool) (r : ℕ) (Q : ℕ → Type 0) → ((v : ℕ) → T (test v) → Q v)
       → Reads (λ file at. on (number L file at) (λ v n. on (demand (test v) r file n) (λ d n. found v n))) width Q
   tested test r Q f =
@@ -93,12 +99,6 @@ module _ (L : Limits) where
   pub reads-named : (W driven : ℕ) → Reads (named L W driven) width (λ v. T (has driven v))
   unfolding named
   reads-named W driven = tested (λ v. ltb v W && has driven v) _ (λ v. T (has driven v)) (λ v h. and-r (ltb v W) (has driven v) h)
-
-  -- a listed signal is from `low` on and below W, and is not taken
-  pub record SignalRead (W taken low v : ℕ) : Type 0 where
-    pub from : low ≤ v
-    pub below : v < W
-    pub free : T (has taken v) → ⊥
 
   pub reads-signal : (W taken low : ℕ) → Reads (signal L W taken low) width (SignalRead W taken low)
   unfolding signal

@@ -8,14 +8,18 @@ use lib.ListN.{take}
 use native.Mathlib.Nat.{mul-le-mul-right}
 use native.Mathlib.Omega.{arith}
 use Prim.Native.Nat.{_*_, _+_, _≤_, suc, zero, ℕ}
-use Rattle.meaning.specs.File.Parser.{Parser, _>>=_, _>>_, demand, give, listOf, on}
-use Rattle.meaning.proofs.File.Lists.{Says, Sequence, on-same, on-says, says-map}
+use Rattle.meaning.specs.File.Parser.{Parser, _>>=_, _>>_, demand, found, give, listOf, on}
+use Rattle.meaning.proofs.File.Lists.{Says, Sequence, found-says, on-same, on-says, says-map}
 
 pub record Reads {A : Type 0} (p : Parser A) (b : ℕ) (Q : A → Type 0) : Type 0 where
   -- what is found is Q, and the place moves on by at most b
   pub says : (file : List ℕ) (at : ℕ) → Says (λ a e. Q a × (e ≤ at + b)) (p file at)
-  -- only the next b bytes, and whether the file ends there, have an influence
+  -- no byte from the place at + b on has an influence
   pub same : (k : ℕ) (file : List ℕ) (at : ℕ) → at + b ≤ k → p (take k file) at ≡ p file at
+
+pub reads-found : {A : Type 0} {p : Parser A} {b : ℕ} {Q : A → Type 0} → Reads p b Q → (file : List ℕ) (at : ℕ) (a : A) (e : ℕ)
+    → p file at ≡ found a e → Q a × (e ≤ at + b)
+reads-found {p = p} {b = b} {Q = Q} r file at a e q = found-says (λ a e. Q a × (e ≤ at + b)) (p file at) (r .says file at) a e q
 
 -- what is promised can be less
 pub weaker : {A : Type 0} {p : Parser A} {b c : ℕ} {P Q : A → Type 0} → b ≤ c → ((a : A) → P a → Q a) → Reads p b P → Reads p c Q

@@ -14,31 +14,29 @@ use Rattle.meaning.specs.File.Parser.{demand, done, found, repeat}
 use Rattle.meaning.specs.File.Promise.{Promised, Within, noComponent}
 use Rattle.meaning.specs.Nodes.{Node}
 use Rattle.meaning.specs.Tests.{All}
-use Rattle.meaning.proofs.Basic.Booleans.{own-eq}
 use Rattle.meaning.proofs.Basic.Lists.{all-map}
 use Rattle.meaning.proofs.File.Components.{ComponentsRead, componentNumbers, reads-components}
 use Rattle.meaning.proofs.File.Driven.{has-driven}
-use Rattle.meaning.proofs.File.Lists.{Sequence, along-all, along-places, found-says}
+use Rattle.meaning.proofs.File.Lists.{Sequence, along-all, along-places}
 use Rattle.meaning.proofs.File.NodeLists.{NodesRead, reads-nodes}
 use Rattle.meaning.proofs.File.Numbers.{reads-between, reads-less, width}
-use Rattle.meaning.proofs.File.Parsers.{Reads, reads-bind, reads-demand, reads-give, reads-list, reads-then, weaker}
+use Rattle.meaning.proofs.File.Parsers.{Reads, reads-bind, reads-demand, reads-found, reads-give, reads-list, reads-then, weaker}
 
 -- tests that say the same
 same-tests : (a b : Bool) → (T a → T b) → (T b → T a) → a ≡ b
-same-tests a b f g = own-eq a a b (λ h. yes-both a b h (f h)) (λ h. h) g
-  where
-    yes-both : (a b : Bool) → T a → T b → a ≡ b
-    yes-both true true h k = refl
-    yes-both true false h k = absurd k
-    yes-both false b h k = absurd h
+same-tests true true f g = refl
+same-tests true false f g = absurd (f tt)
+same-tests false true f g = absurd (g tt)
+same-tests false false f g = refl
+
+-- a start as it was read
+pub record StartRead (sizes start : List ℕ) : Type 0 where
+  pub long : length start ≡ length sizes
+  pub inside : (i : ℕ) → i < length sizes → getD start i 0 < getD sizes i 0
 
 module _ (L : Limits) where
   -- ---- starts
-  record StartRead (sizes start : List ℕ) : Type 0 where
-    long : length start ≡ length sizes
-    inside : (i : ℕ) → i < length sizes → getD start i 0 < getD sizes i 0
-
-  reads-start : (sizes : List ℕ) → length sizes ≤ L .components → Reads (start L sizes) (L .components * width L) (StartRead sizes)
+  pub reads-start : (sizes : List ℕ) → length sizes ≤ L .components → Reads (start L sizes) (L .components * width L) (StartRead sizes)
   reads-start sizes l =
       weaker (omega arith) made
       (reads-list (startState L sizes) (λ c v. c + 1) (λ c v. v < getD sizes c 0) (λ c. reads-less L _ _) (length sizes)
@@ -53,7 +51,7 @@ module _ (L : Limits) where
                 subst (λ j. getD vs i 0 < getD sizes j 0) e (along-places (λ c v. v < getD sizes c 0) 0 0 vs (h .items) i (omega (arith, h .long)));
           }
 
-  reads-starts : (sizes : List ℕ) (m : ℕ) → length sizes ≤ L .components → m ≤ L .starts
+  pub reads-starts : (sizes : List ℕ) (m : ℕ) → length sizes ≤ L .components → m ≤ L .starts
       → Reads (repeat (start L sizes) m) (L .starts * (L .components * width L)) (λ ss. (length ss ≡ m) × All (StartRead sizes) ss)
   reads-starts sizes m l k =
       weaker (omega arith) (λ ss h. (h .long, along-all (StartRead sizes) done ss (h .items)))
@@ -81,7 +79,7 @@ module _ (L : Limits) where
   fileNumbers = 4 + L .components * componentNumbers L + L .nodes * 3 + L .starts * L .components
 
   promised : (n W k m : ℕ) (cs : List Component) (ns : List (Node ℕ)) (ss : List (List ℕ)) → Within 1 (L .components) n → W ≤ L .signals
-      → ComponentsRead L W noComponent n cs → Within 1 (L .nodes) k → NodesRead L W (drivenBy 0 cs) k ns → m ≤ L .starts
+      → ComponentsRead L W noComponent n cs → Within 1 (L .nodes) k → NodesRead (drivenBy 0 cs) k ns → m ≤ L .starts
       → (length ss ≡ m) × All (StartRead (map (λ c. c .states) cs)) ss
       → Promised L (record { signals = W; components = cs; nodes = ns; starts = ss })
   promised n W k m cs ns ss hn hW qc hk qn hm qs =
@@ -124,6 +122,4 @@ module _ (L : Limits) where
 
 -- what a reader promises of an accepted file
 pub file-promised : (file : List ℕ) (c : Contents) (e : ℕ) → readFile file ≡ found c e → Promised limits c
-file-promised file c e q =
-    found-says (λ c e. Promised limits c × (e ≤ 0 + (fileNumbers limits * width limits + 1))) (readFile file)
-    (reads-whole limits .says file 0) c e q .0
+file-promised file c e q = reads-found (reads-whole limits) file 0 c e q .0

@@ -1,4 +1,5 @@
--- What a reader promises of the contents of an accepted file (document 01, The instrument file). Limits are a parameter.
+-- What a reader promises of the contents of an accepted file, and how many bytes of a file settle it (document 01, The instrument file).
+-- Limits are a parameter.
 use mathlib.Core.Path.{_≡_}
 use mathlib.Core.Logic.{_≢_}
 use mathlib.Core.List.{List, []}
@@ -59,6 +60,6 @@ pub record Promised (L : Limits) (c : Contents) : Type 0 where
   pub starts : All (λ start. (length start ≡ length (c .components))
       × ((i : ℕ) → i < length (c .components) → getD start i 0 < componentAt c i .states)) (c .starts)
 
--- the listing program reads so many bytes of standard input, which settles every longer input too (proofs/File/Limit)
+-- the listing program reads at most so many bytes, which settles every longer input too (proofs/File/Limit)
 abbrev pub listingBytes : ℕ
 listingBytes = 16385
