@@ -15,8 +15,3 @@ pub mod NodeLists
 pub mod Reads
 pub mod Accepted
 pub mod Limit
-pub mod Tables
-pub mod Formulas
-pub mod Nodes
-pub mod Promise
-pub mod Cases
