@@ -62,6 +62,7 @@ module _ (t : Table) where
   unfolding euPass
   eu-pass p q = built-decides (least-decides t (test-decides (has p)) (test-decides (has q)))
 
+  -- (a component within the limits is total: Component, steps-total)
   pub eu-fail : Total t → (f g : ℕ) → Decides (t .states) (has (euFail t f g)) (Stays t (In f) (In g))
   unfolding euFail
   eu-fail total f g = built-decides (stays-decides t total (test-decides (has f)) (test-decides (has g)))

@@ -340,15 +340,15 @@ some-member (suc k) w p z = go (w % 2) refl (some-member k (w / 2) (omega (arith
     go (suc (suc d)) e ih = absurd (omega arith)
 
 -- words that have a common member
-pub meet-in : (a b t : ℕ) → T (has a t) → T (has b t) → T (not (empty (intersection a b)))
+pub common-in : (a b t : ℕ) → T (has a t) → T (has b t) → T (not (empty (intersection a b)))
 unfolding intersection
-meet-in a b t h i =
+common-in a b t h i =
     let o : digit (bitAnd a b) t ≡ 1 = digit-and a b t ∙ omega (arith, has-one a t h, has-one b t i) in
     not-T (empty (bitAnd a b)) (λ e. subst T (empty-out (bitAnd a b) e t) (one-has (bitAnd a b) t o))
 
-pub meet-out : (k a b : ℕ) → a < 2 ^ k → T (not (empty (intersection a b))) → (t : ℕ) × (t < k) × T (has a t) × T (has b t)
+pub common-out : (k a b : ℕ) → a < 2 ^ k → T (not (empty (intersection a b))) → (t : ℕ) × (t < k) × T (has a t) × T (has b t)
 unfolding intersection empty
-meet-out k a b p h =
+common-out k a b p h =
     let (t, l, m) =
     some-member k (bitAnd a b) (omega (arith, and-le-l a b)) (λ e. T-not (eqb (bitAnd a b) 0) h (subst (λ w. T (eqb w 0)) (sym e) tt))
     in
