@@ -123,6 +123,10 @@ pub intersection-lt : (k a b : ℕ) → a < 2 ^ k → intersection a b < 2 ^ k
 unfolding intersection
 intersection-lt k a b p = omega (arith, and-le-l a b)
 
+pub intersection-lt-r : (k a b : ℕ) → b < 2 ^ k → intersection a b < 2 ^ k
+unfolding intersection
+intersection-lt-r k a b p = omega (arith, and-le-r a b)
+
 pub has-insert : (w t : ℕ) → T (has (insert w t) t)
 unfolding insert
 has-insert w t =
