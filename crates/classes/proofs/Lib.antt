@@ -1,0 +1,5 @@
+pub mod Component
+pub mod Padded
+pub mod Rows
+pub mod Loops
+pub mod Row

@@ -1,0 +1,23 @@
+-- What the loops keep: a word built state by state, and a list of 32 filled state by state.
+use mathlib.Core.Path.{_≡_}
+use mathlib.Core.Bool.{Bool, _&&_}
+use mathlib.Core.List.{List}
+use Prim.Native.Nat.{ℕ, _≤_}
+use Rattle.words.specs.Sets.{has, built}
+use Rattle.meaning.specs.Tests.{anyBelow}
+use Rattle.classes.specs.Rows.{padded, rel}
+
+-- w is the set of the numbers below x that pass f, on the way to n
+pub record Building (n : ℕ) (f : ℕ → Bool) (w x : ℕ) : Type 0 where
+  pub bound : x ≤ n
+  pub word : w ≡ built x f
+
+-- l has f below x, and 0 from x on, on the way to n
+pub record Filling (n : ℕ) (f : ℕ → ℕ) (l : List ℕ) (x : ℕ) : Type 0 where
+  pub bound : x ≤ n
+  pub list : l ≡ padded 32 x f
+
+-- m is the union of the rows of w's members below v, on the way to n
+pub record Joining (n w : ℕ) (r : List ℕ) (m v : ℕ) : Type 0 where
+  pub bound : v ≤ n
+  pub bits : (u : ℕ) → has m u ≡ anyBelow v (λ v. has w v && rel r v u)

@@ -1,0 +1,64 @@
+-- When two states of one component are related at a node, as rows (document 01, Classes). What each definition means is proved in
+-- proofs/Meaning.
+use mathlib.Core.Path.{_≡_}
+use mathlib.Core.Bool.{Bool, true, false, _&&_, _||_, Bool·beq}
+use mathlib.Core.List.{List}
+use lib.ListN.{getD}
+use lib.Dec.{eqb}
+use Prim.Native.Nat.{ℕ}
+use Rattle.words.specs.Sets.{has, built}
+use Rattle.meaning.specs.Reference.Relation.{matchedB, ruleB, largestB}
+use Rattle.classes.specs.Component.{stepTable}
+use Rattle.classes.specs.Rows.{rel, rows}
+
+-- "True, foreign signal: always."
+unfoldable pub relatedAll : ℕ → List ℕ
+relatedAll n = rows n (λ x y. true)
+
+-- "Own signal: same level." The signal is the j-th listed output.
+unfoldable pub relatedLevel : List ℕ → ℕ → ℕ → List ℕ
+relatedLevel outs n j = rows n (λ x y. Bool·beq (has (getD outs x 0) j) (has (getD outs y 0) j))
+
+-- "or .. EU first need relation for every operand"
+unfoldable pub relatedBoth : ℕ → List ℕ → List ℕ → List ℕ
+relatedBoth n a b = rows n (λ x y. rel a x y && rel b x y)
+
+-- y and x where x and y are related
+unfoldable pub conversed : ℕ → List ℕ → List ℕ
+conversed n r = rows n (λ x y. rel r y x)
+
+-- "on every assignment each non-FAIL successor of" y "has a related successor of" x, by the relation r; outputs are not looked at
+abbrev pub answers : ℕ → ℕ → List ℕ → List ℕ → ℕ → ℕ → ℕ → Bool
+answers states inputs succ r fail x y = matchedB (stepTable states inputs succ) (λ z. 0) (has fail) (λ u v. rel r v u) y x
+
+-- row x has every such y
+unfoldable pub answered : ℕ → ℕ → List ℕ → List ℕ → ℕ → List ℕ
+answered states inputs succ r fail = rows states (answers states inputs succ r fail)
+
+-- the states of own that are PASS with x, FAIL with x, or in alike
+unfoldable pub kept : ℕ → ℕ → ℕ → ℕ → ℕ → ℕ → ℕ
+kept n own pass fail alike x =
+    built n (λ y. has own y && ((has pass x && has pass y) || ((has fail x && has fail y) || has alike y)))
+
+-- the pairs of r that are both PASS, both FAIL, or have equal compared outputs and are related by forth and back
+unfoldable pub ruled : ℕ → List ℕ → List ℕ → ℕ → ℕ → List ℕ → List ℕ → List ℕ
+ruled n compared r pass fail forth back =
+    rows n (λ x y. rel r x y && ((has pass x && has pass y) || ((has fail x && has fail y)
+    || (eqb (getD compared x 0) (getD compared y 0) && (rel forth x y && rel back x y)))))
+
+-- the outcome of a comparison of rows
+pub record Same (a b : List ℕ) (r : Bool) : Type 0 where
+  pub equal : r ≡ true → a ≡ b
+  pub other : r ≡ false → a ≡ b → ⊥
+
+module _ (states inputs : ℕ) (succ compared : List ℕ) where
+  -- EX: related for the operand, and "both PASS, or both FAIL, of the node; or equal output words, and on every assignment each non-FAIL
+  -- successor of either has a related successor of the other", where non-FAIL and related are those of the operand
+  unfoldable pub relatedEx : List ℕ → ℕ → ℕ → ℕ → List ℕ
+  relatedEx operand pass fail operandFail =
+      rows states (λ x y. rel operand x y
+      && ruleB (stepTable states inputs succ) (λ z. getD compared z 0) (has pass) (has fail) (has operandFail) (rel operand) x y)
+
+  -- EG, EU: the largest relation inside the operands' that keeps the same rule, where FAIL and related are those of the node itself
+  unfoldable pub relatedFixed : List ℕ → ℕ → ℕ → List ℕ
+  relatedFixed operands pass fail = rows states (largestB (stepTable states inputs succ) (λ z. getD compared z 0) (rel operands) (has pass) (has fail))
