@@ -3,3 +3,4 @@ pub mod Padded
 pub mod Rows
 pub mod Loops
 pub mod Row
+pub mod Lowest

@@ -2,9 +2,11 @@
 use mathlib.Core.Path.{_≡_}
 use mathlib.Core.Bool.{Bool, _&&_}
 use mathlib.Core.List.{List}
+use lib.ListN.{getD}
 use Prim.Native.Nat.{ℕ, _≤_}
 use Rattle.words.specs.Sets.{has, built}
 use Rattle.meaning.specs.Tests.{anyBelow}
+use Rattle.meaning.specs.Classes.{classesBelow}
 use Rattle.classes.specs.Rows.{padded, rel}
 
 -- w is the set of the numbers below x that pass f, on the way to n
@@ -21,3 +23,9 @@ pub record Filling (n : ℕ) (f : ℕ → ℕ) (l : List ℕ) (x : ℕ) : Type 0
 pub record Joining (n w : ℕ) (r : List ℕ) (m v : ℕ) : Type 0 where
   pub bound : v ≤ n
   pub bits : (u : ℕ) → has m u ≡ anyBelow v (λ v. has w v && rel r v u)
+
+-- count is how many states below x are the name of their class, on the way to n
+pub record Counting (n : ℕ) (names : List ℕ) (count x : ℕ) : Type 0 where
+  pub bound : x ≤ n
+  pub few : count ≤ x
+  pub counted : count ≡ classesBelow (λ x. getD names x 0) x

@@ -1,45 +1,47 @@
+use Prim.Native.Nat.{_-_}
+use mathlib.Core.Path.{_∙_}
+use mathlib.Core.Logic.{⊎-elim}
+use Rattle.classes.specs.Loops.{Counting}
+use Rattle.classes.specs.Names as names
+use Rattle.classes.proofs.Lowest.{counting-none, counting-in, counting-out, counting-end}
+use borrow.Author.Needs.{needs}
+use native.Mathlib.Omega.{arith}
 use Rattle.classes.proofs.names.class_count.Statement.{statement}
 use Rattle.classes.proofs.names.class_count.Tie as tie
-use Rattle.classes.proofs.names.class_count.Reads as reads
-use Rattle.classes.proofs.names.class_count.Lts as lts
 
 abbrev Inv-loop : tie.InvT-loop
-Inv-loop states names count₀ x₀ count x = ?
+Inv-loop states names count₀ x₀ count x = Counting states names count x
 
 abbrev μ-loop : tie.MeasureT-loop
-μ-loop states names count₀ x₀ count x = ?
+μ-loop states names count₀ x₀ count x = states - x
 
--- src/names.rt:28:5
 loop-holds : tie.Need-loop-holds Inv-loop μ-loop
-loop-holds c = ?
+loop-holds c = counting-none _ _
 
--- src/names.rt:29:12
 array-read-if1 : tie.Need-array-read-if1 Inv-loop μ-loop
-array-read-if1 c = ?
+array-read-if1 c = search needs
 
--- src/names.rt:29:12
 cast-if1 : tie.Need-cast-if1 Inv-loop μ-loop
-cast-if1 c = ?
+cast-if1 c = search needs
 
--- src/names.rt:30:13
 add-count : tie.Need-add-count Inv-loop μ-loop
-add-count c = ?
+add-count c = omega arith
 
--- src/names.rt:32:9
 add-x : tie.Need-add-x Inv-loop μ-loop
-add-x c = ?
+add-x c = omega arith
 
--- src/names.rt:28:5
 loop-less : tie.Need-loop-less Inv-loop μ-loop
-loop-less c = ?
+loop-less c = omega arith
 
--- src/names.rt:28:5
 loop-again : tie.Need-loop-again Inv-loop μ-loop
-loop-again c = ?
+loop-again c =
+    let l = c .before .before .loop .inv in
+    ⊎-elim (λ w. rw (w .1) (counting-in l (c .before .loop-test .taken) (w .0 .taken))) (λ w. rw (w .1) (counting-out l (c .before .loop-test .taken) (w .0 .left)))
+    (c .if1 .came)
 
--- src/names.rt:22:1
 returns : tie.Need-returns Inv-loop μ-loop
-returns c = ?
+unfolding names.classCount
+returns c = counting-end (c .before .loop .inv) (c .loop-test .left)
 
 pub class-count-spec : {M : Type 1} → statement M
 class-count-spec =

@@ -1,54 +1,55 @@
+use Prim.Native.Nat.{_-_}
+use mathlib.Core.Path.{_∙_}
+use Rattle.meaning.specs.Reference.Tests.{lowest}
+use Rattle.classes.specs.Loops.{Filling}
+use Rattle.classes.specs.Names as names
+use Rattle.classes.specs.Rows.{rel}
+use Rattle.classes.proofs.Loops.{filling-none, filling-more, filling-end}
+use Rattle.classes.proofs.Lowest.{lowest-lt, lowest-row}
+use borrow.Author.Needs.{needs}
+use native.Mathlib.Omega.{arith}
 use Rattle.classes.proofs.names.class_names.Statement.{statement}
 use Rattle.classes.proofs.names.class_names.Tie as tie
-use Rattle.classes.proofs.names.class_names.Reads as reads
-use Rattle.classes.proofs.names.class_names.Lts as lts
-use Rattle.words.proofs.lowest.Reads as lowest-reads
 
 abbrev Inv-loop : tie.InvT-loop
-Inv-loop states r result₀ x₀ result x = ?
+Inv-loop states r result₀ x₀ result x = Filling states (λ x. lowest states (rel r x)) result x
 
 abbrev μ-loop : tie.MeasureT-loop
-μ-loop states r result₀ x₀ result x = ?
+μ-loop states r result₀ x₀ result x = states - x
 
--- src/names.rt:14:5
 loop-holds : tie.Need-loop-holds Inv-loop μ-loop
-loop-holds c = ?
+loop-holds c = filling-none _ _
 
--- src/names.rt:15:35
 mul-lowest : tie.Need-mul-lowest Inv-loop μ-loop
-mul-lowest c = ?
+mul-lowest c = omega arith
 
--- src/names.rt:15:35
 array-read-lowest : tie.Need-array-read-lowest Inv-loop μ-loop
-array-read-lowest c = ?
+array-read-lowest c = search needs
 
--- src/names.rt:15:21
 lowest-requires : tie.Need-lowest-requires Inv-loop μ-loop
-lowest-requires c κs = ?
+lowest-requires c κs = tt
 
--- src/names.rt:15:21
 cast-result : tie.Need-cast-result Inv-loop μ-loop
-cast-result c = ?
+cast-result c = let p = c .before .before .before .pre in omega (arith, c .lowest .ensures, lowest-lt _ _ _ (p .0) (p .1) (c .before .loop-test .taken))
 
--- src/names.rt:15:9
 array-write-result : tie.Need-array-write-result Inv-loop μ-loop
-array-write-result c = ?
+array-write-result c = search needs
 
--- src/names.rt:16:9
 add-x : tie.Need-add-x Inv-loop μ-loop
-add-x c = ?
+add-x c = omega arith
 
--- src/names.rt:14:5
 loop-less : tie.Need-loop-less Inv-loop μ-loop
-loop-less c = ?
+loop-less c = omega arith
 
--- src/names.rt:14:5
 loop-again : tie.Need-loop-again Inv-loop μ-loop
-loop-again c = ?
+loop-again c =
+    let l = c .before .before in
+    let p = l .before .pre in
+    filling-more (l .loop .inv) (p .0) (c .before .loop-test .taken) (c .lowest .ensures ∙ lowest-row _ _ _ (p .0) (p .1) (c .before .loop-test .taken))
 
--- src/names.rt:8:1
 returns : tie.Need-returns Inv-loop μ-loop
-returns c = ?
+unfolding names.classNames
+returns c = filling-end (c .before .loop .inv) (c .loop-test .left)
 
 pub class-names-spec : {M : Type 1} → statement M
 class-names-spec =

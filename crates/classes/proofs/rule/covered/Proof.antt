@@ -1,53 +1,51 @@
+use Prim.Native.Nat.{_-_}
+use mathlib.Core.Path.{refl, _∙_}
+use Rattle.words.specs.Sets as sets
+use Rattle.classes.specs.Component as component
+use Rattle.classes.specs.Loops.{Building}
+use Rattle.classes.proofs.Component.{within}
+use Rattle.classes.proofs.Loops.{building-none, building-more, building-end}
+use native.Mathlib.Omega.{arith}
 use Rattle.classes.proofs.rule.covered.Statement.{statement}
 use Rattle.classes.proofs.rule.covered.Tie as tie
-use Rattle.classes.proofs.rule.covered.Reads as reads
-use Rattle.classes.proofs.rule.covered.Lts as lts
-use Rattle.classes.proofs.relation.put.Reads as put-reads
-use Rattle.classes.proofs.rule.successors.Reads as successors-reads
-use Rattle.words.proofs.intersection.Reads as intersection-reads
-use Rattle.words.proofs.subset.Reads as subset-reads
 
 abbrev Inv-loop : tie.InvT-loop
-Inv-loop succ states inputs a live m result₀ y₀ result y = ?
+Inv-loop succ states inputs a live m result₀ y₀ result y = Building states (λ y. sets.subset (sets.intersection (component.successors inputs succ y a) live) m) result y
 
 abbrev μ-loop : tie.MeasureT-loop
-μ-loop succ states inputs a live m result₀ y₀ result y = ?
+μ-loop succ states inputs a live m result₀ y₀ result y = states - y
 
--- src/rule.rt:49:5
 loop-holds : tie.Need-loop-holds Inv-loop μ-loop
-loop-holds c = ?
+loop-holds c = building-none _ _
 
--- src/rule.rt:50:37
 successors-requires : tie.Need-successors-requires Inv-loop μ-loop
-successors-requires c κs = ?
+successors-requires c κs =
+    let p = c .before .before .before .pre in
+    (p .0 .few, within (p .0) _ _ (c .loop-test .taken) (p .1))
 
--- src/rule.rt:50:13
 intersection-requires : tie.Need-intersection-requires Inv-loop μ-loop
-intersection-requires c κs = ?
+intersection-requires c κs = tt
 
--- src/rule.rt:51:33
 subset-requires : tie.Need-subset-requires Inv-loop μ-loop
-subset-requires c κs = ?
+subset-requires c κs = tt
 
--- src/rule.rt:51:9
 put-requires : tie.Need-put-requires Inv-loop μ-loop
-put-requires c κs = ?
+put-requires c κs = omega arith
 
--- src/rule.rt:52:9
 add-y : tie.Need-add-y Inv-loop μ-loop
-add-y c = ?
+add-y c = omega arith
 
--- src/rule.rt:49:5
 loop-less : tie.Need-loop-less Inv-loop μ-loop
-loop-less c = ?
+loop-less c = omega arith
 
--- src/rule.rt:49:5
 loop-again : tie.Need-loop-again Inv-loop μ-loop
-loop-again c = ?
+loop-again c =
+    let l = c .before .before .before .before in
+    building-more (l .before .loop .inv) (l .loop-test .taken) (c .put .ensures)
+    (c .before .subset .ensures ∙ rw (c .before .before .intersection .ensures, c .before .before .before .successors .ensures) refl)
 
--- src/rule.rt:40:1
 returns : tie.Need-returns Inv-loop μ-loop
-returns c = ?
+returns c = building-end (c .before .loop .inv) (c .loop-test .left)
 
 pub covered-spec : {M : Type 1} → statement M
 covered-spec =
