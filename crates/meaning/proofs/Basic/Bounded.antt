@@ -1,7 +1,7 @@
 -- Tests and choices of the numbers below a bound.
 use mathlib.Core.Path.{_≡_, ap₂, refl, subst, sym}
 use mathlib.Core.Logic.{_↔_, _⊎_, inl, inr}
-use mathlib.Core.Bool.{Bool, _||_, cond, false, true}
+use mathlib.Core.Bool.{Bool, _&&_, _||_, cond, false, true}
 use lib.Dec.{T}
 use native.Mathlib.Decide.{decLt, ℕ-discrete}
 use native.Mathlib.Omega.{arith}
@@ -48,6 +48,10 @@ all-out (suc n) f h i l =
       | inl e ↦ subst (λ j. T (f j)) (sym e) (and-l (f n) (allBelow n f) h)
       | inr k ↦ all-out n f (and-r (f n) (allBelow n f) h) i k
     ]
+
+pub all-same : (n : ℕ) (f g : ℕ → Bool) → ((i : ℕ) → i < n → f i ≡ g i) → allBelow n f ≡ allBelow n g
+all-same zero f g h = refl
+all-same (suc n) f g h = ap₂ (λ a b. a && b) (h n (omega arith)) (all-same n f g (λ i l. h i (omega arith)))
 
 -- a choice below n is a function
 module _ {P : ℕ → ℕ → Type 0} (n : ℕ) (h : (i : ℕ) → i < n → (y : ℕ) × P i y) where
