@@ -3,4 +3,5 @@ pub mod Padded
 pub mod Rows
 pub mod Loops
 pub mod Row
-pub mod Lowest
+pub mod Naming
+pub mod Answers

@@ -48,6 +48,21 @@ kept-row n own pass fail alike x =
     f : ℕ
     f = cond (has fail x) fail 0
 
+-- what is kept of a row, where the alike are those that pass g and are in two rows
+pub ruled-row : (n own pass fail x s f b : ℕ) (g : ℕ → Bool) → s ≡ built n g
+    → kept n own pass fail (intersection s (intersection f b)) x
+    ≡ built n (λ y. has own y && ((has pass x && has pass y) || ((has fail x && has fail y) || (g y && (has f y && has b y)))))
+unfolding kept
+ruled-row n own pass fail x s f b g e =
+    built-same n (λ y. has own y && ((has pass x && has pass y) || ((has fail x && has fail y) || has alike y)))
+    (λ y. has own y && ((has pass x && has pass y) || ((has fail x && has fail y) || (g y && (has f y && has b y))))) (λ y l.
+    ap (λ z. has own y && ((has pass x && has pass y) || ((has fail x && has fail y) || z)))
+    (has-intersection s (intersection f b) y
+    ∙ ap₂ (λ p q. p && q) (ap (λ z. has z y) e ∙ has-built n g y l) (has-intersection f b y)))
+  where
+    alike : ℕ
+    alike = intersection s (intersection f b)
+
 -- the states with the level of x, where the states with level true are given
 beq-true : (c : Bool) → c ≡ Bool·beq true c
 beq-true true = refl
@@ -57,11 +72,15 @@ beq-false : (c : Bool) → not c ≡ Bool·beq false c
 beq-false true = refl
 beq-false false = refl
 
-pub level-row : (n : ℕ) (f : ℕ → Bool) (b : Bool) → cond b (built n f) (complement n (built n f)) ≡ built n (λ y. Bool·beq b (f y))
+same-level : (n : ℕ) (f : ℕ → Bool) (b : Bool) → cond b (built n f) (complement n (built n f)) ≡ built n (λ y. Bool·beq b (f y))
 unfolding complement
-level-row n f true = built-same n f (λ y. Bool·beq true (f y)) (λ y l. beq-true (f y))
-level-row n f false =
+same-level n f true = built-same n f (λ y. Bool·beq true (f y)) (λ y l. beq-true (f y))
+same-level n f false =
     built-same n (λ y. not (has (built n f) y)) (λ y. Bool·beq false (f y)) (λ y l. ap not (has-built n f y l) ∙ beq-false (f y))
+
+pub level-row : (outs : List ℕ) (n j x : ℕ) {high low v : ℕ} {b : Bool} → high ≡ built n (λ y. has (getD outs y 0) j) → low ≡ complement n high
+    → b ≡ has (getD outs x 0) j → v ≡ cond b high low → v ≡ built n (λ y. Bool·beq (has (getD outs x 0) j) (has (getD outs y 0) j))
+level-row outs n j x h l e d = d ∙ rw (l, h, e) (same-level n (λ y. has (getD outs y 0) j) (has (getD outs x 0) j))
 
 -- ---- the union of the rows of a word's members
 pub joining-none : (n w : ℕ) (r : List ℕ) → Joining n w r 0 0

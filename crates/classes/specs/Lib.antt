@@ -1,5 +1,5 @@
 pub mod Component
 pub mod Rows
-pub mod Loops
 pub mod Related
 pub mod Names
+pub mod Loops

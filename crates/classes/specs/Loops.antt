@@ -3,11 +3,13 @@ use mathlib.Core.Path.{_≡_}
 use mathlib.Core.Bool.{Bool, _&&_}
 use mathlib.Core.List.{List}
 use lib.ListN.{getD}
-use Prim.Native.Nat.{ℕ, _≤_}
+use Prim.Native.Nat.{ℕ, _^_, _≤_}
 use Rattle.words.specs.Sets.{has, built}
 use Rattle.meaning.specs.Tests.{anyBelow}
 use Rattle.meaning.specs.Classes.{classesBelow}
+use Rattle.meaning.specs.Reference.Tests.{allBelow}
 use Rattle.classes.specs.Rows.{padded, rel}
+use Rattle.classes.specs.Related.{answersOn}
 
 -- w is the set of the numbers below x that pass f, on the way to n
 pub record Building (n : ℕ) (f : ℕ → Bool) (w x : ℕ) : Type 0 where
@@ -29,3 +31,8 @@ pub record Counting (n : ℕ) (names : List ℕ) (count x : ℕ) : Type 0 where
   pub bound : x ≤ n
   pub few : count ≤ x
   pub counted : count ≡ classesBelow (λ x. getD names x 0) x
+
+-- w is the set of the states whose successors on the assignments below a are answered by those of x
+pub record Answering (states inputs : ℕ) (succ r : List ℕ) (fail x w a : ℕ) : Type 0 where
+  pub bound : a ≤ 2 ^ inputs
+  pub word : w ≡ built states (λ y. allBelow a (answersOn states inputs succ r fail x y))

@@ -7,7 +7,8 @@ use lib.ListN.{getD}
 use lib.Dec.{eqb}
 use Prim.Native.Nat.{ℕ}
 use Rattle.words.specs.Sets.{has, built}
-use Rattle.meaning.specs.Reference.Relation.{matchedB, ruleB, largestB}
+use Rattle.meaning.specs.Reference.Tests.{allBelow}
+use Rattle.meaning.specs.Reference.Relation.{meetB, matchedB, ruleB, largestB}
 use Rattle.classes.specs.Component.{stepTable}
 use Rattle.classes.specs.Rows.{rel, rows}
 
@@ -27,7 +28,11 @@ relatedBoth n a b = rows n (λ x y. rel a x y && rel b x y)
 unfoldable pub conversed : ℕ → List ℕ → List ℕ
 conversed n r = rows n (λ x y. rel r y x)
 
--- "on every assignment each non-FAIL successor of" y "has a related successor of" x, by the relation r; outputs are not looked at
+-- by the relation r "each non-FAIL successor of" y "has a related successor of" x: on assignment a, and "on every assignment". Outputs are
+-- not looked at.
+abbrev pub answersOn : ℕ → ℕ → List ℕ → List ℕ → ℕ → ℕ → ℕ → ℕ → Bool
+answersOn states inputs succ r fail x y a = allBelow states (meetB (stepTable states inputs succ) (λ z. 0) (has fail) (λ u v. rel r v u) y x a)
+
 abbrev pub answers : ℕ → ℕ → List ℕ → List ℕ → ℕ → ℕ → ℕ → Bool
 answers states inputs succ r fail x y = matchedB (stepTable states inputs succ) (λ z. 0) (has fail) (λ u v. rel r v u) y x
 
@@ -41,10 +46,13 @@ kept n own pass fail alike x =
     built n (λ y. has own y && ((has pass x && has pass y) || ((has fail x && has fail y) || has alike y)))
 
 -- the pairs of r that are both PASS, both FAIL, or have equal compared outputs and are related by forth and back
+abbrev pub rules : List ℕ → List ℕ → ℕ → ℕ → List ℕ → List ℕ → ℕ → ℕ → Bool
+rules compared r pass fail forth back x y =
+    rel r x y && ((has pass x && has pass y) || ((has fail x && has fail y)
+    || (eqb (getD compared x 0) (getD compared y 0) && (rel forth x y && rel back x y))))
+
 unfoldable pub ruled : ℕ → List ℕ → List ℕ → ℕ → ℕ → List ℕ → List ℕ → List ℕ
-ruled n compared r pass fail forth back =
-    rows n (λ x y. rel r x y && ((has pass x && has pass y) || ((has fail x && has fail y)
-    || (eqb (getD compared x 0) (getD compared y 0) && (rel forth x y && rel back x y)))))
+ruled n compared r pass fail forth back = rows n (rules compared r pass fail forth back)
 
 -- the outcome of a comparison of rows
 pub record Same (a b : List ℕ) (r : Bool) : Type 0 where

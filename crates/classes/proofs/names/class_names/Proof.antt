@@ -5,7 +5,7 @@ use Rattle.classes.specs.Loops.{Filling}
 use Rattle.classes.specs.Names as names
 use Rattle.classes.specs.Rows.{rel}
 use Rattle.classes.proofs.Loops.{filling-none, filling-more, filling-end}
-use Rattle.classes.proofs.Lowest.{lowest-lt, lowest-row}
+use Rattle.classes.proofs.Naming.{lowest-lt, lowest-row}
 use borrow.Author.Needs.{needs}
 use native.Mathlib.Omega.{arith}
 use Rattle.classes.proofs.names.class_names.Statement.{statement}
