@@ -5,3 +5,6 @@ pub mod Loops
 pub mod Row
 pub mod Naming
 pub mod Answers
+pub mod Ruled
+pub mod Sum
+pub mod Refining

@@ -3,11 +3,14 @@ use mathlib.Core.Path.{_≡_}
 use mathlib.Core.Bool.{Bool, _&&_}
 use mathlib.Core.List.{List}
 use lib.ListN.{getD}
-use Prim.Native.Nat.{ℕ, _^_, _≤_}
+use lib.Dec.{T}
+use Prim.Native.Nat.{ℕ, _^_, _≤_, _<_}
 use Rattle.words.specs.Sets.{has, built}
 use Rattle.meaning.specs.Tests.{anyBelow}
 use Rattle.meaning.specs.Classes.{classesBelow}
 use Rattle.meaning.specs.Reference.Tests.{allBelow}
+use Rattle.meaning.specs.Reference.Relation.{largestB}
+use Rattle.classes.specs.Component.{stepTable}
 use Rattle.classes.specs.Rows.{padded, rel}
 use Rattle.classes.specs.Related.{answersOn}
 
@@ -36,3 +39,9 @@ pub record Counting (n : ℕ) (names : List ℕ) (count x : ℕ) : Type 0 where
 pub record Answering (states inputs : ℕ) (succ r : List ℕ) (fail x w a : ℕ) : Type 0 where
   pub bound : a ≤ 2 ^ inputs
   pub word : w ≡ built states (λ y. allBelow a (answersOn states inputs succ r fail x y))
+
+-- r lies between the operands' relation and the largest relation inside it that keeps the rule
+pub record Refining (states inputs : ℕ) (succ compared operands : List ℕ) (pass fail : ℕ) (r : List ℕ) : Type 0 where
+  pub inside : (x y : ℕ) → x < states → y < states → T (rel r x y) → T (rel operands x y)
+  pub holds : (x y : ℕ) → x < states → y < states
+      → T (largestB (stepTable states inputs succ) (λ z. getD compared z 0) (rel operands) (has pass) (has fail) x y) → T (rel r x y)

@@ -1,0 +1,45 @@
+-- The relation of EX is made of the answered successors and their converse.
+use mathlib.Core.Path.{_≡_, refl, ap, ap₂, _∙_}
+use mathlib.Core.Bool.{Bool, _&&_, _||_}
+use mathlib.Core.List.{List}
+use lib.Dec.{eqb}
+use lib.ListN.{getD}
+use Prim.Native.Nat.{ℕ, _≤_, _<_}
+use Rattle.words.specs.Sets.{has}
+use Rattle.meaning.specs.Reference.Relation.{matchedB, ruleB}
+use Rattle.classes.specs.Component.{stepTable}
+use Rattle.classes.specs.Rows.{rel, rows}
+use Rattle.classes.specs.Related.{conversed, answers, answered, rules, ruled, relatedEx}
+use Rattle.classes.proofs.Rows.{rel-rows, rows-same}
+use Rattle.classes.proofs.Answers.{matched-same}
+
+pub converse-at : (n : ℕ) (r : List ℕ) (x y : ℕ) → n ≤ 32 → x < n → y < n → rel (conversed n r) x y ≡ rel r y x
+unfolding conversed
+converse-at n r x y m l k = rel-rows n (λ x y. rel r y x) x y m l k
+
+module _ (states inputs : ℕ) (succ compared : List ℕ) (m : states ≤ 32) where
+  answered-at : (r : List ℕ) (fail x y : ℕ) → x < states → y < states
+      → rel (answered states inputs succ r fail) x y ≡ answers states inputs succ r fail x y
+  unfolding answered
+  answered-at r fail x y l k = rel-rows states (answers states inputs succ r fail) x y m l k
+
+  -- what is answered by the converse relation, read the other way
+  forth-at : (r : List ℕ) (fail x y : ℕ) → x < states → y < states
+      → rel (conversed states (answered states inputs succ (conversed states r) fail)) x y
+      ≡ matchedB (stepTable states inputs succ) (λ z. getD compared z 0) (has fail) (rel r) x y
+  forth-at r fail x y l k =
+      converse-at states (answered states inputs succ (conversed states r) fail) x y m l k
+      ∙ (answered-at (conversed states r) fail y x k l
+      ∙ matched-same (stepTable states inputs succ) (λ z. getD compared z 0) (has fail) (λ u v. rel (conversed states r) v u) (rel r)
+      (λ u v p q. converse-at states r v u m q p) x y)
+
+  pub ruled-ex : (r : List ℕ) (pass fail under : ℕ)
+      → ruled states compared r pass fail (conversed states (answered states inputs succ (conversed states r) under)) (answered states inputs succ r under)
+      ≡ relatedEx states inputs succ compared r pass fail under
+  unfolding ruled relatedEx
+  ruled-ex r pass fail under =
+      rows-same states (rules compared r pass fail (conversed states (answered states inputs succ (conversed states r) under)) (answered states inputs succ r under))
+      (λ x y. rel r x y && ruleB (stepTable states inputs succ) (λ z. getD compared z 0) (has pass) (has fail) (has under) (rel r) x y) m (λ x y l k.
+      ap₂ (λ f b. rel r x y && ((has pass x && has pass y) || ((has fail x && has fail y)
+      || (eqb (getD compared x 0) (getD compared y 0) && (f && b)))))
+      (forth-at r under x y l k) (answered-at r under x y l k))
