@@ -17,7 +17,7 @@ use Rattle.meaning.proofs.Basic.Bounded.{any-same, all-same}
 use Rattle.meaning.proofs.Meaning.Full.{length-upTo}
 use Rattle.classes.specs.Component.{successors}
 use Rattle.classes.specs.Rows.{rel}
-use Rattle.classes.specs.Related.{answersOn, answers}
+use Rattle.classes.specs.Matching.{answersOn, answers}
 use Rattle.classes.specs.Loops.{Answering}
 use Rattle.classes.proofs.Row.{covered-all}
 

@@ -15,7 +15,7 @@ use Rattle.meaning.specs.Reference.Tests.{allBelow}
 use Rattle.meaning.proofs.Basic.Booleans.{iff-eq, imp-in, imp-out, and-in, and-l, and-r}
 use Rattle.meaning.proofs.Basic.Bounded.{all-in, all-out}
 use Rattle.classes.specs.Rows.{rel}
-use Rattle.classes.specs.Related.{kept}
+use Rattle.classes.specs.Matching.{kept}
 use Rattle.classes.specs.Loops.{Joining}
 
 has-picked : (b : Bool) (w y : ℕ) → has (cond b w 0) y ≡ (b && has w y)

@@ -9,7 +9,8 @@ use Rattle.words.specs.Sets.{has}
 use Rattle.meaning.specs.Reference.Relation.{matchedB, ruleB}
 use Rattle.classes.specs.Component.{stepTable}
 use Rattle.classes.specs.Rows.{rel, rows}
-use Rattle.classes.specs.Related.{conversed, answers, answered, rules, ruled, relatedEx}
+use Rattle.classes.specs.Related.{relatedEx}
+use Rattle.classes.specs.Matching.{conversed, answers, answered, rules, ruled}
 use Rattle.classes.proofs.Rows.{rel-rows, rows-same}
 use Rattle.classes.proofs.Answers.{matched-same}
 

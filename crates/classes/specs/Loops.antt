@@ -12,7 +12,7 @@ use Rattle.meaning.specs.Reference.Tests.{allBelow}
 use Rattle.meaning.specs.Reference.Relation.{largestB}
 use Rattle.classes.specs.Component.{stepTable}
 use Rattle.classes.specs.Rows.{padded, rel}
-use Rattle.classes.specs.Related.{answersOn}
+use Rattle.classes.specs.Matching.{answersOn}
 
 -- w is the set of the numbers below x that pass f, on the way to n
 pub record Building (n : ℕ) (f : ℕ → Bool) (w x : ℕ) : Type 0 where

@@ -12,7 +12,7 @@ pub fn class_names(r: [u32; 32], states: usize) -> [u8; 32]
     let mut result = [0u8; 32];
     let mut x: usize = 0;
     while x < states {
-        result[x] = words::lowest(r[x]) as u8;
+        result[x] = u32::trailing_zeros(r[x]) as u8;
         x += 1;
     }
     result
@@ -53,5 +53,5 @@ pub fn class_size(names: [u8; 32], states: usize, c: u8) -> u32
     requires { ⌜ states ≤ 32 ⌝ }
     ensures { λ r. ⌜ r ≡ classes.classSize names states c ⌝ }
 {
-    words::size(member_word(names, states, c))
+    u32::count_ones(member_word(names, states, c))
 }

@@ -6,7 +6,8 @@ ghost use lib.ListN.{length, getD};
 ghost use lib.Dec.{eqb};
 ghost use Rattle.words.specs.Sets.{has, built, insert};
 ghost use Rattle.classes.specs.Rows.{rel, rows};
-ghost use Rattle.classes.specs.Related.{relatedAll, relatedLevel, relatedBoth, conversed};
+ghost use Rattle.classes.specs.Related.{relatedAll, relatedLevel, relatedBoth};
+ghost use Rattle.classes.specs.Matching.{conversed};
 
 // w, and t besides if yes.
 pub(crate) fn put(w: u32, t: usize, yes: bool) -> u32

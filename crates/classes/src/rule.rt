@@ -12,6 +12,7 @@ ghost use Rattle.meaning.specs.Tests.{anyBelow};
 ghost use Rattle.classes.specs.Component as component;
 ghost use Rattle.classes.specs.Rows.{rel, rows};
 ghost use Rattle.classes.specs.Related as related;
+ghost use Rattle.classes.specs.Matching as matching;
 
 // The successor word of state x on assignment a.
 fn successors(succ: &[u32], inputs: usize, x: usize, a: usize) -> u32
@@ -57,7 +58,7 @@ fn covered(succ: &[u32], states: usize, inputs: usize, a: usize, live: u32, m: u
 // The states of which, on every assignment, each non-FAIL successor has a successor of x that is related to it.
 fn answered_row(succ: &[u32], states: usize, inputs: usize, r: [u32; 32], fail: u32, x: usize) -> u32
     requires { ⌜ component.Steps states inputs (now succ) × (x < states) ⌝ }
-    ensures { λ w. ⌜ w ≡ sets.built states (related.answers states inputs (now (succ .entry)) r fail x) ⌝ }
+    ensures { λ w. ⌜ w ≡ sets.built states (matching.answers states inputs (now (succ .entry)) r fail x) ⌝ }
 {
     let live = words::complement(fail, states as u32);
     let count = 1usize << inputs;
@@ -74,7 +75,7 @@ fn answered_row(succ: &[u32], states: usize, inputs: usize, r: [u32; 32], fail: 
 // The same for every state x.
 fn answered(succ: &[u32], states: usize, inputs: usize, r: [u32; 32], fail: u32) -> [u32; 32]
     requires { ⌜ component.Steps states inputs (now succ) ⌝ }
-    ensures { λ s. ⌜ s ≡ related.answered states inputs (now (succ .entry)) r fail ⌝ }
+    ensures { λ s. ⌜ s ≡ matching.answered states inputs (now (succ .entry)) r fail ⌝ }
 {
     let mut result = [0u32; 32];
     let mut x: usize = 0;
@@ -103,7 +104,7 @@ fn same_outputs(compared: &[u32], states: usize, x: usize) -> u32
 // Of the states in own those that are PASS with x, FAIL with x, or alike.
 fn kept(states: usize, own: u32, pass: u32, fail: u32, alike: u32, x: usize) -> u32
     requires { ⌜ (states ≤ 32) × (x < states) ⌝ }
-    ensures { λ r. ⌜ r ≡ related.kept states own pass fail alike x ⌝ }
+    ensures { λ r. ⌜ r ≡ matching.kept states own pass fail alike x ⌝ }
 {
     let t = x as u32;
     let failed = pick(words::member(fail, t), fail, 0);
@@ -115,7 +116,7 @@ fn kept(states: usize, own: u32, pass: u32, fail: u32, alike: u32, x: usize) -> 
 // The rule for every pair of r, where forth and back say which successors are matched.
 fn ruled(compared: &[u32], states: usize, r: [u32; 32], pass: u32, fail: u32, forth: [u32; 32], back: [u32; 32]) -> [u32; 32]
     requires { ⌜ (states ≤ 32) × (states ≤ length (now compared)) ⌝ }
-    ensures { λ s. ⌜ s ≡ related.ruled states (now (compared .entry)) r pass fail forth back ⌝ }
+    ensures { λ s. ⌜ s ≡ matching.ruled states (now (compared .entry)) r pass fail forth back ⌝ }
 {
     let mut result = [0u32; 32];
     let mut x: usize = 0;
@@ -149,7 +150,7 @@ pub fn rel_ex(
 
 // Whether two relations have the same rows.
 fn same(a: [u32; 32], b: [u32; 32]) -> bool
-    ensures { λ r. ⌜ related.Same a b r ⌝ }
+    ensures { λ r. ⌜ matching.Same a b r ⌝ }
 {
     let mut x: usize = 0;
     while x < 32 {

@@ -1,5 +1,4 @@
 use Prim.Native.Nat.{_-_}
-use mathlib.Core.Path.{_∙_}
 use Rattle.meaning.specs.Reference.Tests.{lowest}
 use Rattle.classes.specs.Loops.{Filling}
 use Rattle.classes.specs.Names as names
@@ -20,17 +19,14 @@ abbrev μ-loop : tie.MeasureT-loop
 loop-holds : tie.Need-loop-holds Inv-loop μ-loop
 loop-holds c = filling-none _ _
 
-mul-lowest : tie.Need-mul-lowest Inv-loop μ-loop
-mul-lowest c = omega arith
+mul-result : tie.Need-mul-result Inv-loop μ-loop
+mul-result c = omega arith
 
-array-read-lowest : tie.Need-array-read-lowest Inv-loop μ-loop
-array-read-lowest c = search needs
-
-lowest-requires : tie.Need-lowest-requires Inv-loop μ-loop
-lowest-requires c κs = tt
+array-read-result : tie.Need-array-read-result Inv-loop μ-loop
+array-read-result c = search needs
 
 cast-result : tie.Need-cast-result Inv-loop μ-loop
-cast-result c = let p = c .before .before .before .pre in omega (arith, c .lowest .ensures, lowest-lt _ _ _ (p .0) (p .1) (c .before .loop-test .taken))
+cast-result c = let p = c .before .before .pre in omega (arith, lowest-lt _ _ _ (p .0) (p .1) (c .loop-test .taken))
 
 array-write-result : tie.Need-array-write-result Inv-loop μ-loop
 array-write-result c = search needs
@@ -43,9 +39,9 @@ loop-less c = omega arith
 
 loop-again : tie.Need-loop-again Inv-loop μ-loop
 loop-again c =
-    let l = c .before .before in
+    let l = c .before in
     let p = l .before .pre in
-    filling-more (l .loop .inv) (p .0) (c .before .loop-test .taken) (c .lowest .ensures ∙ lowest-row _ _ _ (p .0) (p .1) (c .before .loop-test .taken))
+    filling-more (l .loop .inv) (p .0) (c .loop-test .taken) (lowest-row _ _ _ (p .0) (p .1) (c .loop-test .taken))
 
 returns : tie.Need-returns Inv-loop μ-loop
 unfolding names.classNames
@@ -58,9 +54,8 @@ class-names-spec =
     Inv-loop
     μ-loop
     loop-holds
-    mul-lowest
-    array-read-lowest
-    lowest-requires
+    mul-result
+    array-read-result
     cast-result
     array-write-result
     add-x

@@ -1,7 +1,7 @@
 use Prim.Native.Nat.{_-_}
 use Rattle.words.specs.Sets.{built}
 use Rattle.classes.specs.Loops.{Filling}
-use Rattle.classes.specs.Related as related
+use Rattle.classes.specs.Matching as matching
 use Rattle.classes.specs.Rows.{rel, rows}
 use Rattle.classes.proofs.Loops.{filling-none, filling-more, filling-end}
 use borrow.Author.Needs.{needs}
@@ -39,7 +39,7 @@ loop-again c =
     filling-more (l .loop .inv) (l .before .pre) (c .before .loop-test .taken) (c .column .ensures)
 
 returns : tie.Need-returns Inv-loop μ-loop
-unfolding related.conversed rows
+unfolding matching.conversed rows
 returns c = filling-end (c .before .loop .inv) (c .loop-test .left)
 
 pub converse-spec : {M : Type 1} → statement M

@@ -1,7 +1,7 @@
 use Prim.Native.Nat.{_-_}
 use Rattle.words.specs.Sets.{built}
 use Rattle.classes.specs.Loops.{Filling}
-use Rattle.classes.specs.Related as related
+use Rattle.classes.specs.Matching as matching
 use Rattle.classes.specs.Rows.{rows}
 use Rattle.classes.proofs.Loops.{filling-none, filling-more, filling-end}
 use native.Mathlib.Omega.{arith}
@@ -9,7 +9,7 @@ use Rattle.classes.proofs.rule.answered.Statement.{statement}
 use Rattle.classes.proofs.rule.answered.Tie as tie
 
 abbrev Inv-loop : tie.InvT-loop
-Inv-loop succ states inputs r fail result₀ x₀ result x = Filling states (λ x. built states (related.answers states inputs succ r fail x)) result x
+Inv-loop succ states inputs r fail result₀ x₀ result x = Filling states (λ x. built states (matching.answers states inputs succ r fail x)) result x
 
 abbrev μ-loop : tie.MeasureT-loop
 μ-loop succ states inputs r fail result₀ x₀ result x = states - x
@@ -38,7 +38,7 @@ loop-again c =
     filling-more (l .loop .inv) (l .before .before .pre .most) (c .before .loop-test .taken) (c .answered-row .ensures)
 
 returns : tie.Need-returns Inv-loop μ-loop
-unfolding related.answered rows
+unfolding matching.answered rows
 returns c = filling-end (c .before .loop .inv) (c .loop-test .left)
 
 pub answered-spec : {M : Type 1} → statement M

@@ -5,7 +5,7 @@ use lib.Dec.{eqb}
 use lib.ListN.{getD}
 use Rattle.words.specs.Sets.{has, built}
 use Rattle.classes.specs.Loops.{Filling}
-use Rattle.classes.specs.Related as related
+use Rattle.classes.specs.Matching as matching
 use Rattle.classes.specs.Rows.{rel, rows}
 use Rattle.classes.proofs.Loops.{filling-none, filling-more, filling-end}
 use Rattle.classes.proofs.Row.{ruled-row}
@@ -15,7 +15,7 @@ use Rattle.classes.proofs.rule.ruled.Statement.{statement}
 use Rattle.classes.proofs.rule.ruled.Tie as tie
 
 abbrev Inv-loop : tie.InvT-loop
-Inv-loop compared states pass fail r forth back result₀ x₀ result x = Filling states (λ x. built states (related.rules compared r pass fail forth back x)) result x
+Inv-loop compared states pass fail r forth back result₀ x₀ result x = Filling states (λ x. built states (matching.rules compared r pass fail forth back x)) result x
 
 abbrev μ-loop : tie.MeasureT-loop
 μ-loop compared states pass fail r forth back result₀ x₀ result x = states - x
@@ -78,7 +78,7 @@ loop-again c =
     (ruled-row _ _ _ _ _ _ _ _ (λ y. eqb (getD (a .compared .now) (l .loop .x) 0) (getD (a .compared .now) y 0)) (s .same-outputs .ensures)))
 
 returns : tie.Need-returns Inv-loop μ-loop
-unfolding related.ruled rows
+unfolding matching.ruled rows
 returns c = filling-end (c .before .loop .inv) (c .loop-test .left)
 
 pub ruled-spec : {M : Type 1} → statement M
