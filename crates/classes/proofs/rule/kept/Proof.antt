@@ -43,8 +43,17 @@ returns c =
     let u = i .before .before in
     let p = u .before .before in
     let f = p .before .before in
-    rw (c .intersection2 .ensures, i .intersection .ensures, i .before .below .ensures, u .union2 .ensures, u .before .union .ensures,
-    p .pick2 .ensures, p .before .member2 .ensures, f .pick .ensures, f .before .member .ensures) (kept-row _ _ _ _ _ _)
+    rw (
+      c .intersection2 .ensures,
+      i .intersection .ensures,
+      i .before .below .ensures,
+      u .union2 .ensures,
+      u .before .union .ensures,
+      p .pick2 .ensures,
+      p .before .member2 .ensures,
+      f .pick .ensures,
+      f .before .member .ensures,
+    ) (kept-row _ _ _ _ _ _)
 
 pub kept-spec : {M : Type 1} → statement M
 kept-spec =

@@ -1,8 +1,8 @@
 use Rattle.words.proofs.Digits.{power-word}
 use native.Mathlib.Omega.{arith}
 use borrow.Author.Needs.{needs}
-use Rattle.classes.proofs.rule.successors.Statement.{statement}
-use Rattle.classes.proofs.rule.successors.Tie as tie
+use Rattle.classes.proofs.matching.successors.Statement.{statement}
+use Rattle.classes.proofs.matching.successors.Tie as tie
 
 shl-count : tie.Need-shl-count
 shl-count c = search needs

@@ -6,8 +6,8 @@ use Rattle.classes.specs.Loops.{Building}
 use Rattle.classes.proofs.Component.{within}
 use Rattle.classes.proofs.Loops.{building-none, building-more, building-end}
 use native.Mathlib.Omega.{arith}
-use Rattle.classes.proofs.rule.covered.Statement.{statement}
-use Rattle.classes.proofs.rule.covered.Tie as tie
+use Rattle.classes.proofs.matching.covered.Statement.{statement}
+use Rattle.classes.proofs.matching.covered.Tie as tie
 
 abbrev Inv-loop : tie.InvT-loop
 Inv-loop succ states inputs a live m result₀ y₀ result y = Building states (λ y. sets.subset (sets.intersection (component.successors inputs succ y a) live) m) result y

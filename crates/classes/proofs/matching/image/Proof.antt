@@ -4,8 +4,8 @@ use Rattle.classes.specs.Loops.{Joining}
 use Rattle.classes.proofs.Row.{joining-none, joining-more, joining-end}
 use borrow.Author.Needs.{needs}
 use native.Mathlib.Omega.{arith}
-use Rattle.classes.proofs.rule.image.Statement.{statement}
-use Rattle.classes.proofs.rule.image.Tie as tie
+use Rattle.classes.proofs.matching.image.Statement.{statement}
+use Rattle.classes.proofs.matching.image.Tie as tie
 
 abbrev Inv-loop : tie.InvT-loop
 Inv-loop states w r result₀ v₀ result v = Joining states w r result v

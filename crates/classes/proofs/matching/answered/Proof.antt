@@ -5,8 +5,8 @@ use Rattle.classes.specs.Matching as matching
 use Rattle.classes.specs.Rows.{rows}
 use Rattle.classes.proofs.Loops.{filling-none, filling-more, filling-end}
 use native.Mathlib.Omega.{arith}
-use Rattle.classes.proofs.rule.answered.Statement.{statement}
-use Rattle.classes.proofs.rule.answered.Tie as tie
+use Rattle.classes.proofs.matching.answered.Statement.{statement}
+use Rattle.classes.proofs.matching.answered.Tie as tie
 
 abbrev Inv-loop : tie.InvT-loop
 Inv-loop succ states inputs r fail result₀ x₀ result x = Filling states (λ x. built states (matching.answers states inputs succ r fail x)) result x

@@ -5,8 +5,8 @@ use Rattle.classes.specs.Loops.{Answering}
 use Rattle.classes.proofs.Answers.{answering-none, answering-more, answering-end}
 use Rattle.classes.proofs.Component.{within}
 use native.Mathlib.Omega.{arith}
-use Rattle.classes.proofs.rule.answered_row.Statement.{statement}
-use Rattle.classes.proofs.rule.answered_row.Tie as tie
+use Rattle.classes.proofs.matching.answered_row.Statement.{statement}
+use Rattle.classes.proofs.matching.answered_row.Tie as tie
 
 abbrev Inv-loop : tie.InvT-loop
 Inv-loop succ states inputs r fail x live count result₀ a₀ result a = (count ≡ 2 ^ inputs) × Answering states inputs succ r fail x result a
@@ -57,9 +57,11 @@ loop-less c = omega arith
 loop-again : tie.Need-loop-again Inv-loop μ-loop
 loop-again c =
     let i = c .before .before in
-    let l = i .before .before .before in
-    (l .loop .inv .0, answering-more (l .loop .inv .1) (omega arith) (i .image .ensures ∙ rw (i .before .successors .ensures))
-    (c .before .covered .ensures ∙ rw (l .before .before .complement .ensures)) (c .intersection .ensures))
+    let l = i .before .before .before in (
+      l .loop .inv .0,
+      answering-more (l .loop .inv .1) (omega arith) (i .image .ensures ∙ rw (i .before .successors .ensures))
+          (c .before .covered .ensures ∙ rw (l .before .before .complement .ensures)) (c .intersection .ensures),
+    )
 
 returns : tie.Need-returns Inv-loop μ-loop
 returns c = answering-end (c .before .loop .inv .1) (omega arith)
