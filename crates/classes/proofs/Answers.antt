@@ -1,4 +1,4 @@
--- The states whose successors are answered by those of one state, assignment by assignment; and what that test depends on.
+-- The states whose successors are answered by those of one state, assignment by assignment.
 use mathlib.Core.Path.{_≡_, refl, sym, subst, ap, _∙_}
 use mathlib.Core.Bool.{Bool, true, not, _&&_, _||_}
 use mathlib.Core.List.{List}
@@ -8,12 +8,10 @@ use native.Mathlib.Omega.{arith}
 use Prim.Native.Nat.{ℕ, suc, _+_, _^_, _≤_, _<_}
 use Rattle.words.specs.Sets.{has, built, below, complement, intersection, subset}
 use Rattle.words.proofs.Members.{built-same, below-built, both-built}
-use Rattle.meaning.specs.Table.{Table, assignments}
 use Rattle.meaning.specs.Tests.{anyBelow}
 use Rattle.meaning.specs.Reference.Tests.{allBelow}
 use Rattle.meaning.specs.Reference.Truth.{upTo}
-use Rattle.meaning.specs.Reference.Relation.{meetB, matchedB}
-use Rattle.meaning.proofs.Basic.Bounded.{any-same, all-same}
+use Rattle.meaning.specs.Reference.Relation.{meetB}
 use Rattle.meaning.proofs.Meaning.Full.{length-upTo}
 use Rattle.classes.specs.Component.{successors}
 use Rattle.classes.specs.Rows.{rel}
@@ -57,12 +55,3 @@ pub answering-end : {states inputs : ℕ} {succ r : List ℕ} {fail x w a : ℕ}
 answering-end {states} {inputs} {succ} {r} {fail} {x} {w} {a} h l =
     let e : a ≡ 2 ^ length (upTo inputs) = let b = h .bound in rw (length-upTo inputs) (omega arith) in
     h .word ∙ ap (λ z. built states (λ y. allBelow z (answersOn states inputs succ r fail x y))) e
-
--- the test depends on the relation of states alone
-pub matched-same : (t : Table) (c : ℕ → ℕ) (f : ℕ → Bool) (R S : ℕ → ℕ → Bool)
-    → ((u v : ℕ) → u < t .states → v < t .states → R u v ≡ S u v) → (x y : ℕ) → matchedB t c f R x y ≡ matchedB t c f S x y
-matched-same t c f R S h x y =
-    all-same (assignments t) (λ a. allBelow (t .states) (meetB t c f R x y a)) (λ a. allBelow (t .states) (meetB t c f S x y a)) (λ a p.
-    all-same (t .states) (meetB t c f R x y a) (meetB t c f S x y a) (λ u l.
-    ap (λ b. not (t .next x a u && not (f u)) || b)
-    (any-same (t .states) (λ v. t .next y a v && R u v) (λ v. t .next y a v && S u v) (λ v k. ap (λ b. t .next y a v && b) (h u v l k)))))

@@ -12,7 +12,7 @@ use Rattle.classes.specs.Rows.{rel, rows}
 use Rattle.classes.specs.Related.{relatedEx}
 use Rattle.classes.specs.Matching.{conversed, answers, answered, rules, ruled}
 use Rattle.classes.proofs.Rows.{rel-rows, rows-same}
-use Rattle.classes.proofs.Answers.{matched-same}
+use Rattle.classes.proofs.Agree.{matched-agree}
 
 pub converse-at : (n : ℕ) (r : List ℕ) (x y : ℕ) → n ≤ 32 → x < n → y < n → rel (conversed n r) x y ≡ rel r y x
 unfolding conversed
@@ -31,8 +31,8 @@ module _ (states inputs : ℕ) (succ compared : List ℕ) (m : states ≤ 32) wh
   forth-at r fail x y l k =
       converse-at states (answered states inputs succ (conversed states r) fail) x y m l k
       ∙ (answered-at (conversed states r) fail y x k l
-      ∙ matched-same (stepTable states inputs succ) (λ z. getD compared z 0) (has fail) (λ u v. rel (conversed states r) v u) (rel r)
-      (λ u v p q. converse-at states r v u m q p) x y)
+      ∙ matched-agree (stepTable states inputs succ) (λ z. getD compared z 0) (has fail) (has fail) (λ u v. rel (conversed states r) v u) (rel r)
+      (λ u p. refl) (λ u v p q. converse-at states r v u m q p) x y)
 
   pub ruled-ex : (r : List ℕ) (pass fail under : ℕ)
       → ruled states compared r pass fail (conversed states (answered states inputs succ (conversed states r) under)) (answered states inputs succ r under)
