@@ -1,17 +1,16 @@
 -- The states whose successors are answered by those of one state, assignment by assignment.
-use mathlib.Core.Path.{_≡_, refl, sym, subst, ap, _∙_}
-use mathlib.Core.Bool.{Bool, true, not, _&&_, _||_}
+use mathlib.Core.Path.{_≡_, ap, _∙_}
+use mathlib.Core.Bool.{Bool, _&&_}
 use mathlib.Core.List.{List}
 use lib.ListN.{length}
 use native.Mathlib.Numerals.{add-one}
 use native.Mathlib.Omega.{arith}
-use Prim.Native.Nat.{ℕ, suc, _+_, _^_, _≤_, _<_}
+use Prim.Native.Nat.{ℕ, _+_, _^_, _≤_, _<_}
 use Rattle.words.specs.Sets.{has, built, below, complement, intersection, subset}
 use Rattle.words.proofs.Members.{built-same, below-built, both-built}
 use Rattle.meaning.specs.Tests.{anyBelow}
 use Rattle.meaning.specs.Reference.Tests.{allBelow}
 use Rattle.meaning.specs.Reference.Truth.{upTo}
-use Rattle.meaning.specs.Reference.Relation.{meetB}
 use Rattle.meaning.proofs.Meaning.Full.{length-upTo}
 use Rattle.classes.specs.Component.{successors}
 use Rattle.classes.specs.Rows.{rel}

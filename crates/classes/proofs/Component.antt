@@ -1,13 +1,12 @@
 -- The lent steps: where a successor word stands, and the table that they are.
-use mathlib.Core.Path.{_≡_, ap}
+use mathlib.Core.Path.{_≡_}
 use mathlib.Core.List.{List}
 use lib.ListN.{length}
 use native.Mathlib.Nat.{mul-comm, mul-suc, mul-le-mul-left}
 use native.Mathlib.Omega.{arith}
 use Prim.Native.Nat.{ℕ, suc, _+_, _*_, _^_, _≤_, _<_}
-use Rattle.meaning.specs.Reference.Truth.{upTo}
-use Rattle.meaning.proofs.Meaning.Full.{length-upTo}
 use Rattle.words.specs.Sets.{has}
+use Rattle.meaning.proofs.Meaning.Full.{length-upTo}
 use Rattle.classes.specs.Component.{stepTable, successors, Steps}
 
 -- the successor word of a state on an assignment lies within the words

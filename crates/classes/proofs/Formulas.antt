@@ -1,7 +1,7 @@
 -- The rows of a formula's relation from the rows and marks of its operands (document 01, Classes), on a table of a file whose successor
 -- words are the lent ones; the compared outputs are the view's.
 use mathlib.Core.Path.{_≡_, refl, ap₂, _∙_}
-use mathlib.Core.Bool.{Bool, true, _&&_}
+use mathlib.Core.Bool.{Bool, _&&_}
 use mathlib.Core.List.{List}
 use lib.ListN.{getD, length}
 use Prim.Native.Nat.{ℕ, _≤_, _<_}

@@ -1,5 +1,5 @@
 -- What the public definitions mean, in document 01's words (Classes).
-use mathlib.Core.Path.{_≡_, refl, sym, subst, ap, ap₂, _∙_}
+use mathlib.Core.Path.{_≡_, refl, sym, subst, ap₂}
 use mathlib.Core.Logic.{_↔_}
 use mathlib.Core.Bool.{Bool, true, _&&_, Bool·beq, cond}
 use mathlib.Core.List.{List}

@@ -1,19 +1,17 @@
 -- Names of classes, and the count of them.
-use mathlib.Core.Path.{_≡_, refl, sym, ap, _∙_}
-use mathlib.Core.Bool.{Bool, cond}
+use mathlib.Core.Path.{_≡_, refl, ap, _∙_}
 use mathlib.Core.List.{List}
 use lib.Count.{ones, trailingZeros}
-use lib.Dec.{T, eqb}
+use lib.Dec.{eqb}
 use lib.ListN.{getD}
 use lib.Pow.{pow-mono}
 use native.Mathlib.Nat.{lt-of-lt-of-le}
 use native.Mathlib.Numerals.{add-one}
 use native.Mathlib.Omega.{arith}
-use Prim.Native.Nat.{ℕ, suc, _+_, _≤_, _<_}
+use Prim.Native.Nat.{ℕ, _+_, _≤_, _<_}
 use borrow.Author.Tests.{eq-eqb, ne-eqb}
 use Rattle.words.specs.Sets as sets
 use Rattle.words.proofs.Members.{Lowest, lowest-is, trailing-lowest, built-lt, ones-size}
-use Rattle.meaning.specs.Tests.{anyBelow}
 use Rattle.meaning.specs.Classes.{classesBelow}
 use Rattle.meaning.specs.Reference.Tests.{lowest}
 use Rattle.meaning.proofs.Basic.Bounded.{lowest-hit, lowest-le}

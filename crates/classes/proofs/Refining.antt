@@ -1,5 +1,5 @@
 -- Rows are refined until the rule deletes no pair: what is left is the largest relation that keeps it.
-use mathlib.Core.Path.{_≡_, refl, sym, subst, ap, _∙_}
+use mathlib.Core.Path.{_≡_, sym, subst, _∙_}
 use mathlib.Core.Bool.{Bool, _&&_}
 use mathlib.Core.List.{List}
 use lib.Dec.{T}
@@ -13,11 +13,11 @@ use Rattle.meaning.specs.Table.{Table}
 use Rattle.meaning.specs.Relation.{LargestRelation, Rule}
 use Rattle.meaning.specs.Reference.Relation.{ruleB, largestB}
 use Rattle.meaning.proofs.Basic.Booleans.{and-in, and-l, and-r, iff-eq}
-use Rattle.meaning.proofs.Basic.Decides.{Decides, DecidesPairs, test-decides}
+use Rattle.meaning.proofs.Basic.Decides.{DecidesPairs, test-decides}
 use Rattle.meaning.proofs.Classes.Largest.{relation-out, relation-decides}
 use Rattle.meaning.proofs.Classes.Rules.{rule-in, rule-map, rule-out}
 use Rattle.classes.specs.Component.{stepTable}
-use Rattle.classes.specs.Rows.{padded, rel, rows}
+use Rattle.classes.specs.Rows.{rel, rows}
 use Rattle.classes.specs.Related.{relatedEx, relatedFixed}
 use Rattle.classes.specs.Loops.{Refining}
 use Rattle.classes.proofs.Padded.{padded-past}

@@ -6,13 +6,13 @@ use lib.Dec.{T}
 use lib.ListN.{getD}
 use native.Mathlib.Numerals.{add-one}
 use native.Mathlib.Omega.{arith}
-use Prim.Native.Nat.{ℕ, suc, _+_, _^_, _≤_, _<_}
+use Prim.Native.Nat.{ℕ, _+_, _^_, _≤_, _<_}
 use Rattle.words.specs.Sets.{has, built, below, complement, intersection, union, subset}
 use Rattle.words.proofs.Members.{built-same, cut-built, has-built, has-none, has-union, has-intersection, has-complement, complement-lt}
 use Rattle.words.proofs.Members.{intersection-lt-r, subset-in, subset-out}
 use Rattle.meaning.specs.Tests.{anyBelow}
 use Rattle.meaning.specs.Reference.Tests.{allBelow}
-use Rattle.meaning.proofs.Basic.Booleans.{iff-eq, imp-in, imp-out, and-in, and-l, and-r}
+use Rattle.meaning.proofs.Basic.Booleans.{iff-eq, imp-in, imp-out}
 use Rattle.meaning.proofs.Basic.Bounded.{all-in, all-out}
 use Rattle.classes.specs.Rows.{rel}
 use Rattle.classes.specs.Matching.{kept}

@@ -1,7 +1,6 @@
 -- Rows of a test of pairs: their bits, and when two are equal.
-use mathlib.Core.Path.{_≡_, refl, sym, subst, ap, _∙_}
-use mathlib.Core.Bool.{Bool, true, false}
-use mathlib.Core.List.{List}
+use mathlib.Core.Path.{_≡_, subst, ap, _∙_}
+use mathlib.Core.Bool.{Bool, false}
 use lib.Dec.{T}
 use lib.ListN.{length, getD}
 use native.Mathlib.Decide.{decLt}
@@ -9,7 +8,7 @@ use native.Mathlib.Omega.{arith}
 use Prim.Native.Nat.{ℕ, _≤_, _<_}
 use Rattle.words.specs.Sets.{has, built}
 use Rattle.words.proofs.Members.{has-built, has-built-lt, built-same, has-none}
-use Rattle.classes.specs.Rows.{padded, rel, rows}
+use Rattle.classes.specs.Rows.{rel, rows}
 use Rattle.classes.proofs.Padded.{length-padded, padded-at, padded-past, padded-same}
 
 pub length-rows : (n : ℕ) (b : ℕ → ℕ → Bool) → length (rows n b) ≡ 32

@@ -1,6 +1,6 @@
 -- The relation of EX is made of the answered successors and their converse.
-use mathlib.Core.Path.{_≡_, refl, ap, ap₂, _∙_}
-use mathlib.Core.Bool.{Bool, _&&_, _||_}
+use mathlib.Core.Path.{_≡_, refl, ap₂, _∙_}
+use mathlib.Core.Bool.{_&&_, _||_}
 use mathlib.Core.List.{List}
 use lib.Dec.{eqb}
 use lib.ListN.{getD}
@@ -8,7 +8,7 @@ use Prim.Native.Nat.{ℕ, _≤_, _<_}
 use Rattle.words.specs.Sets.{has}
 use Rattle.meaning.specs.Reference.Relation.{matchedB, ruleB}
 use Rattle.classes.specs.Component.{stepTable}
-use Rattle.classes.specs.Rows.{rel, rows}
+use Rattle.classes.specs.Rows.{rel}
 use Rattle.classes.specs.Related.{relatedEx}
 use Rattle.classes.specs.Matching.{conversed, answers, answered, rules, ruled}
 use Rattle.classes.proofs.Rows.{rel-rows, rows-same}

@@ -1,5 +1,5 @@
 -- The sum of a list falls where no element grows and some element changes.
-use mathlib.Core.Path.{_≡_, refl, ap, ap₂}
+use mathlib.Core.Path.{_≡_, refl, ap₂}
 use mathlib.Core.List.{List, [], _∷_}
 use lib.ListN.{length, getD}
 use native.Mathlib.Decide.{ℕ-discrete}

@@ -1,8 +1,8 @@
 -- A relation of states as rows of words: bit y of row x says that x and y are related.
 use mathlib.Core.Bool.{Bool, cond}
 use mathlib.Core.List.{List, [], _∷_}
-use lib.ListN.{getD}
 use lib.Dec.{ltb}
+use lib.ListN.{getD}
 use Prim.Native.Nat.{ℕ, zero, suc}
 use Rattle.words.specs.Sets.{has, built}
 

@@ -1,7 +1,7 @@
 // Names, number, members and sizes of classes (document 01, Classes).
 use crate::relation::put;
 ghost use mathlib.Core.Path.{_≡_};
-ghost use Prim.Native.Nat.{ℕ, _≤_, _<_};
+ghost use Prim.Native.Nat.{_≤_, _<_};
 ghost use Rattle.classes.specs.Names as classes;
 
 // The name of each state's class: the lowest state that it is related to.

@@ -1,11 +1,10 @@
 // Relations as rows: all pairs, same level of an output, pairs of two relations, the converse.
 ghost use mathlib.Core.Path.{_≡_};
-ghost use mathlib.Core.Bool.{Bool, true, _&&_, cond};
-ghost use Prim.Native.Nat.{ℕ, _≤_, _<_};
+ghost use mathlib.Core.Bool.{cond};
+ghost use Prim.Native.Nat.{_≤_, _<_};
 ghost use lib.ListN.{length, getD};
-ghost use lib.Dec.{eqb};
 ghost use Rattle.words.specs.Sets.{has, built, insert};
-ghost use Rattle.classes.specs.Rows.{rel, rows};
+ghost use Rattle.classes.specs.Rows.{rel};
 ghost use Rattle.classes.specs.Related.{relatedAll, relatedLevel, relatedBoth};
 ghost use Rattle.classes.specs.Matching.{conversed};
 

@@ -4,7 +4,7 @@ use crate::relation::converse;
 use crate::relation::pick;
 use crate::relation::put;
 ghost use mathlib.Core.Path.{_≡_};
-ghost use Prim.Native.Nat.{ℕ, _≤_, _<_};
+ghost use Prim.Native.Nat.{_≤_, _<_};
 ghost use lib.ListN.{length, getD};
 ghost use lib.Dec.{eqb};
 ghost use Rattle.words.specs.Sets.{built};

@@ -1,10 +1,10 @@
+use native.Mathlib.Omega.{arith}
 use Prim.Native.Nat.{_-_}
 use Rattle.words.specs.Sets.{built}
 use Rattle.classes.specs.Loops.{Filling}
 use Rattle.classes.specs.Matching as matching
 use Rattle.classes.specs.Rows.{rows}
 use Rattle.classes.proofs.Loops.{filling-none, filling-more, filling-end}
-use native.Mathlib.Omega.{arith}
 use Rattle.classes.proofs.matching.answered.Statement.{statement}
 use Rattle.classes.proofs.matching.answered.Tie as tie
 

@@ -1,10 +1,10 @@
+use mathlib.Core.Path.{_≡_, _∙_}
+use native.Mathlib.Omega.{arith}
 use Prim.Native.Nat.{_-_, _^_}
-use mathlib.Core.Path.{_≡_, _∙_, ap}
 use Rattle.words.proofs.Digits.{power-word}
 use Rattle.classes.specs.Loops.{Answering}
 use Rattle.classes.proofs.Answers.{answering-none, answering-more, answering-end}
 use Rattle.classes.proofs.Component.{within}
-use native.Mathlib.Omega.{arith}
 use Rattle.classes.proofs.matching.answered_row.Statement.{statement}
 use Rattle.classes.proofs.matching.answered_row.Tie as tie
 

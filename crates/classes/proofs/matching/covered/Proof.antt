@@ -1,11 +1,11 @@
-use Prim.Native.Nat.{_-_}
 use mathlib.Core.Path.{refl, _∙_}
+use native.Mathlib.Omega.{arith}
+use Prim.Native.Nat.{_-_}
 use Rattle.words.specs.Sets as sets
 use Rattle.classes.specs.Component as component
 use Rattle.classes.specs.Loops.{Building}
 use Rattle.classes.proofs.Component.{within}
 use Rattle.classes.proofs.Loops.{building-none, building-more, building-end}
-use native.Mathlib.Omega.{arith}
 use Rattle.classes.proofs.matching.covered.Statement.{statement}
 use Rattle.classes.proofs.matching.covered.Tie as tie
 

@@ -1,9 +1,9 @@
-use Prim.Native.Nat.{_-_}
 use mathlib.Core.Path.{_∙_}
+use native.Mathlib.Omega.{arith}
+use Prim.Native.Nat.{_-_}
+use borrow.Author.Needs.{needs}
 use Rattle.classes.specs.Loops.{Joining}
 use Rattle.classes.proofs.Row.{joining-none, joining-more, joining-end}
-use borrow.Author.Needs.{needs}
-use native.Mathlib.Omega.{arith}
 use Rattle.classes.proofs.matching.image.Statement.{statement}
 use Rattle.classes.proofs.matching.image.Tie as tie
 

@@ -1,6 +1,6 @@
-use Rattle.words.proofs.Digits.{power-word}
 use native.Mathlib.Omega.{arith}
 use borrow.Author.Needs.{needs}
+use Rattle.words.proofs.Digits.{power-word}
 use Rattle.classes.proofs.matching.successors.Statement.{statement}
 use Rattle.classes.proofs.matching.successors.Tie as tie
 

@@ -1,11 +1,10 @@
-use Prim.Native.Nat.{_-_}
-use mathlib.Core.Path.{_∙_}
 use mathlib.Core.Logic.{⊎-elim}
+use native.Mathlib.Omega.{arith}
+use Prim.Native.Nat.{_-_}
+use borrow.Author.Needs.{needs}
 use Rattle.classes.specs.Loops.{Counting}
 use Rattle.classes.specs.Names as names
 use Rattle.classes.proofs.Naming.{counting-none, counting-in, counting-out, counting-end}
-use borrow.Author.Needs.{needs}
-use native.Mathlib.Omega.{arith}
 use Rattle.classes.proofs.names.class_count.Statement.{statement}
 use Rattle.classes.proofs.names.class_count.Tie as tie
 

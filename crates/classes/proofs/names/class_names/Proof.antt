@@ -1,12 +1,12 @@
+use native.Mathlib.Omega.{arith}
 use Prim.Native.Nat.{_-_}
+use borrow.Author.Needs.{needs}
 use Rattle.meaning.specs.Reference.Tests.{lowest}
 use Rattle.classes.specs.Loops.{Filling}
 use Rattle.classes.specs.Names as names
 use Rattle.classes.specs.Rows.{rel}
 use Rattle.classes.proofs.Loops.{filling-none, filling-more, filling-end}
 use Rattle.classes.proofs.Naming.{lowest-lt, lowest-row}
-use borrow.Author.Needs.{needs}
-use native.Mathlib.Omega.{arith}
 use Rattle.classes.proofs.names.class_names.Statement.{statement}
 use Rattle.classes.proofs.names.class_names.Tie as tie
 

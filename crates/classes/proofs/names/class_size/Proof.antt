@@ -1,6 +1,6 @@
+use borrow.Author.Needs.{needs}
 use Rattle.classes.specs.Names as names
 use Rattle.classes.proofs.Naming.{member-ones}
-use borrow.Author.Needs.{needs}
 use Rattle.classes.proofs.names.class_size.Statement.{statement}
 use Rattle.classes.proofs.names.class_size.Tie as tie
 

@@ -1,12 +1,12 @@
-use Prim.Native.Nat.{_-_}
 use mathlib.Core.Path.{refl}
 use lib.Dec.{eqb}
 use lib.ListN.{getD}
+use native.Mathlib.Omega.{arith}
+use Prim.Native.Nat.{_-_}
+use borrow.Author.Needs.{needs}
 use Rattle.classes.specs.Loops.{Building}
 use Rattle.classes.specs.Names as names
 use Rattle.classes.proofs.Loops.{building-none, building-more, building-end}
-use borrow.Author.Needs.{needs}
-use native.Mathlib.Omega.{arith}
 use Rattle.classes.proofs.names.member_word.Statement.{statement}
 use Rattle.classes.proofs.names.member_word.Tie as tie
 

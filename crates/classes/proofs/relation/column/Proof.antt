@@ -1,9 +1,9 @@
+use native.Mathlib.Omega.{arith}
 use Prim.Native.Nat.{_-_}
+use borrow.Author.Needs.{needs}
 use Rattle.classes.specs.Loops.{Building}
 use Rattle.classes.specs.Rows.{rel}
 use Rattle.classes.proofs.Loops.{building-none, building-more, building-end}
-use borrow.Author.Needs.{needs}
-use native.Mathlib.Omega.{arith}
 use Rattle.classes.proofs.relation.column.Statement.{statement}
 use Rattle.classes.proofs.relation.column.Tie as tie
 

@@ -1,11 +1,11 @@
+use native.Mathlib.Omega.{arith}
 use Prim.Native.Nat.{_-_}
+use borrow.Author.Needs.{needs}
 use Rattle.words.specs.Sets.{built}
 use Rattle.classes.specs.Loops.{Filling}
 use Rattle.classes.specs.Matching as matching
 use Rattle.classes.specs.Rows.{rel, rows}
 use Rattle.classes.proofs.Loops.{filling-none, filling-more, filling-end}
-use borrow.Author.Needs.{needs}
-use native.Mathlib.Omega.{arith}
 use Rattle.classes.proofs.relation.converse.Statement.{statement}
 use Rattle.classes.proofs.relation.converse.Tie as tie
 

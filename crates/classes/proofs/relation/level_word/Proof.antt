@@ -1,9 +1,9 @@
-use Prim.Native.Nat.{_-_}
 use lib.ListN.{getD}
+use native.Mathlib.Omega.{arith}
+use Prim.Native.Nat.{_-_}
 use Rattle.words.specs.Sets.{has}
 use Rattle.classes.specs.Loops.{Building}
 use Rattle.classes.proofs.Loops.{building-none, building-more, building-end}
-use native.Mathlib.Omega.{arith}
 use Rattle.classes.proofs.relation.level_word.Statement.{statement}
 use Rattle.classes.proofs.relation.level_word.Tie as tie
 

@@ -1,4 +1,3 @@
-use mathlib.Core.Path.{_≡_}
 use borrow.Author.Needs.{needs}
 use Rattle.classes.proofs.relation.put.Statement.{statement}
 use Rattle.classes.proofs.relation.put.Tie as tie

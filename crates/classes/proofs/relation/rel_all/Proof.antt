@@ -1,14 +1,13 @@
-use Prim.Native.Nat.{_≤_, _-_}
 use mathlib.Core.Path.{refl, _∙_}
-use mathlib.Core.Bool.{true}
+use native.Mathlib.Omega.{arith}
+use Prim.Native.Nat.{_-_}
+use borrow.Author.Needs.{needs}
 use Rattle.words.proofs.Members.{below-built}
 use Rattle.classes.specs.Loops.{Filling}
 use Rattle.classes.specs.Related as related
 use Rattle.classes.specs.Rows.{rows}
 use Rattle.classes.proofs.Loops.{filling-none, filling-more, filling-end}
 use Rattle.classes.proofs.Padded.{padded-same}
-use borrow.Author.Needs.{needs}
-use native.Mathlib.Omega.{arith}
 use Rattle.classes.proofs.relation.rel_all.Statement.{statement}
 use Rattle.classes.proofs.relation.rel_all.Tie as tie
 

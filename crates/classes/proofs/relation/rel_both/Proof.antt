@@ -1,14 +1,14 @@
-use Prim.Native.Nat.{_-_}
 use mathlib.Core.Path.{_∙_}
 use mathlib.Core.Bool.{_&&_}
+use native.Mathlib.Omega.{arith}
+use Prim.Native.Nat.{_-_}
+use borrow.Author.Needs.{needs}
 use Rattle.words.specs.Sets.{built}
 use Rattle.classes.specs.Loops.{Filling}
 use Rattle.classes.specs.Related as related
 use Rattle.classes.specs.Rows.{rel, rows}
 use Rattle.classes.proofs.Loops.{filling-none, filling-more, filling-end}
 use Rattle.classes.proofs.Row.{both-row}
-use borrow.Author.Needs.{needs}
-use native.Mathlib.Omega.{arith}
 use Rattle.classes.proofs.relation.rel_both.Statement.{statement}
 use Rattle.classes.proofs.relation.rel_both.Tie as tie
 

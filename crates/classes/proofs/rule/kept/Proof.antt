@@ -1,6 +1,5 @@
-use mathlib.Core.Path.{_∙_}
-use Rattle.classes.proofs.Row.{kept-row}
 use borrow.Author.Needs.{needs}
+use Rattle.classes.proofs.Row.{kept-row}
 use Rattle.classes.proofs.rule.kept.Statement.{statement}
 use Rattle.classes.proofs.rule.kept.Tie as tie
 

@@ -1,6 +1,5 @@
-use mathlib.Core.Path.{_∙_}
-use Rattle.classes.proofs.Ruled.{ruled-ex}
 use borrow.Author.Needs.{needs}
+use Rattle.classes.proofs.Ruled.{ruled-ex}
 use Rattle.classes.proofs.rule.rel_ex.Statement.{statement}
 use Rattle.classes.proofs.rule.rel_ex.Tie as tie
 

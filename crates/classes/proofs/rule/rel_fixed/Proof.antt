@@ -1,9 +1,9 @@
-use lib.ListN.{length}
 use mathlib.Core.Path.{_≡_, sym, _∙_}
+use lib.ListN.{length}
+use borrow.Author.Needs.{needs}
 use Rattle.classes.specs.Loops.{Refining}
 use Rattle.classes.proofs.Refining.{refining-start, refining-more, refining-end, refining-falls}
 use Rattle.classes.proofs.Sum.{sum}
-use borrow.Author.Needs.{needs}
 use Rattle.classes.proofs.rule.rel_fixed.Statement.{statement}
 use Rattle.classes.proofs.rule.rel_fixed.Tie as tie
 

@@ -1,16 +1,15 @@
-use Prim.Native.Nat.{_-_}
 use mathlib.Core.Path.{_∙_}
-use mathlib.Core.Bool.{_&&_, _||_}
 use lib.Dec.{eqb}
 use lib.ListN.{getD}
-use Rattle.words.specs.Sets.{has, built}
+use native.Mathlib.Omega.{arith}
+use Prim.Native.Nat.{_-_}
+use borrow.Author.Needs.{needs}
+use Rattle.words.specs.Sets.{built}
 use Rattle.classes.specs.Loops.{Filling}
 use Rattle.classes.specs.Matching as matching
-use Rattle.classes.specs.Rows.{rel, rows}
+use Rattle.classes.specs.Rows.{rows}
 use Rattle.classes.proofs.Loops.{filling-none, filling-more, filling-end}
 use Rattle.classes.proofs.Row.{ruled-row}
-use borrow.Author.Needs.{needs}
-use native.Mathlib.Omega.{arith}
 use Rattle.classes.proofs.rule.ruled.Statement.{statement}
 use Rattle.classes.proofs.rule.ruled.Tie as tie
 

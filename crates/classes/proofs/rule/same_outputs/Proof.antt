@@ -1,10 +1,10 @@
-use Prim.Native.Nat.{_-_}
 use mathlib.Core.Path.{refl}
 use lib.Dec.{eqb}
 use lib.ListN.{getD}
+use native.Mathlib.Omega.{arith}
+use Prim.Native.Nat.{_-_}
 use Rattle.classes.specs.Loops.{Building}
 use Rattle.classes.proofs.Loops.{building-none, building-more, building-end}
-use native.Mathlib.Omega.{arith}
 use Rattle.classes.proofs.rule.same_outputs.Statement.{statement}
 use Rattle.classes.proofs.rule.same_outputs.Tie as tie
 
