@@ -34,13 +34,19 @@ module _ (states inputs : ℕ) (succ compared : List ℕ) (m : states ≤ 32) wh
       ∙ matched-agree (stepTable states inputs succ) (λ z. getD compared z 0) (has fail) (has fail) (λ u v. rel (conversed states r) v u) (rel r)
       (λ u p. refl) (λ u v p q. converse-at states r v u m q p) x y)
 
-  pub ruled-ex : (r : List ℕ) (pass fail under : ℕ)
+  both-ways : (r : List ℕ) (pass fail under : ℕ)
       → ruled states compared r pass fail (conversed states (answered states inputs succ (conversed states r) under)) (answered states inputs succ r under)
       ≡ relatedEx states inputs succ compared r pass fail under
   unfolding ruled relatedEx
-  ruled-ex r pass fail under =
+  both-ways r pass fail under =
       rows-same states (rules compared r pass fail (conversed states (answered states inputs succ (conversed states r) under)) (answered states inputs succ r under))
       (λ x y. rel r x y && ruleB (stepTable states inputs succ) (λ z. getD compared z 0) (has pass) (has fail) (has under) (rel r) x y) m (λ x y l k.
       ap₂ (λ f b. rel r x y && ((has pass x && has pass y) || ((has fail x && has fail y)
       || (eqb (getD compared x 0) (getD compared y 0) && (f && b)))))
       (forth-at r under x y l k) (answered-at r under x y l k))
+
+  -- step by step as the code makes it
+  pub ruled-ex : (r : List ℕ) (pass fail under : ℕ) {back turned ahead forth made : List ℕ} → back ≡ answered states inputs succ r under
+      → turned ≡ conversed states r → ahead ≡ answered states inputs succ turned under → forth ≡ conversed states ahead
+      → made ≡ ruled states compared r pass fail forth back → made ≡ relatedEx states inputs succ compared r pass fail under
+  ruled-ex r pass fail under b t a f e = e ∙ rw (f, a, t, b) (both-ways r pass fail under)

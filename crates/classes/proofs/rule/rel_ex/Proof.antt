@@ -22,8 +22,8 @@ returns : tie.Need-returns
 returns c =
     let f = c .before .before in
     let b = f .before .before in
-    rw (c .ruled .ensures, c .before .converse2 .ensures, f .answered2 .ensures, f .before .converse .ensures, b .answered .ensures)
-    (ruled-ex _ _ _ _ (b .before .before .before .pre .0 .most) _ _ _ _)
+    ruled-ex _ _ _ _ (b .before .before .before .pre .0 .most) _ _ _ _ (b .answered .ensures) (f .before .converse .ensures) (f .answered2 .ensures)
+    (c .before .converse2 .ensures) (c .ruled .ensures)
 
 pub rel-ex-spec : {M : Type 1} → statement M
 rel-ex-spec =
