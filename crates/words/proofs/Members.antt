@@ -2,12 +2,12 @@
 use mathlib.Core.Path.{_∙_, _≡_, ap, ap₂, refl, subst, sym}
 use mathlib.Core.Logic.{_↔_, _≢_, _⊎_, inl, inr}
 use mathlib.Core.Bool.{Bool, _&&_, _||_, cond, false, not, true}
-use lib.Bits.{and-le-l, and-le-r, bitAnd, bitOr, or-add-and, or-lt}
+use lib.Bits.{and-le-l, and-le-r, bitAnd, bitOr, or-add-and, or-lt, or-shifted-r}
 use lib.Count.{ones, ones-step, trailingZeros, under}
 use lib.Dec.{T, T-not, eqb, eqb-refl, eqb→eq, lit<, not-T}
 use lib.Pow.{pow-lt, pow-mono, pow-pos}
 use native.Mathlib.Decide.{decLt, ℕ-discrete}
-use native.Mathlib.Nat.{lt-of-lt-of-le, not-suc-le-zero}
+use native.Mathlib.Nat.{lt-of-lt-of-le, not-suc-le-zero, one-mul}
 use native.Mathlib.Numerals.{add-one}
 use native.Mathlib.Omega.{arith}
 use Prim.Native.Nat.{_%_, _+_, _-_, _/_, _<_, _^_, _≤_, max, min, suc, zero, ℕ}
@@ -127,6 +127,10 @@ pub intersection-lt : (k a b : ℕ) → a < 2 ^ k → intersection a b < 2 ^ k
 unfolding intersection
 intersection-lt k a b p = omega (arith, and-le-l a b)
 
+pub intersection-lt-r : (k a b : ℕ) → b < 2 ^ k → intersection a b < 2 ^ k
+unfolding intersection
+intersection-lt-r k a b p = omega (arith, and-le-r a b)
+
 pub has-insert : (w t : ℕ) → T (has (insert w t) t)
 unfolding insert
 has-insert w t =
@@ -170,6 +174,11 @@ power-iff t u =
 pub insert-lt : (k w t : ℕ) → w < 2 ^ k → t < k → insert w t < 2 ^ k
 unfolding insert
 insert-lt k w t p l = or-lt k w (2 ^ t) p (pow-lt l)
+
+-- a number above all members
+pub insert-top : (k w : ℕ) → w < 2 ^ k → insert w k ≡ w + 2 ^ k
+unfolding insert
+insert-top k w p = ap (λ z. bitOr w z) (sym (one-mul (2 ^ k))) ∙ (or-shifted-r 1 k w p ∙ omega arith)
 
 pub has-below : (s t : ℕ) → t < s → has (below s) t ≡ true
 unfolding below
@@ -250,6 +259,32 @@ built-intersection n f g =
 pub built-complement : (n : ℕ) (f : ℕ → Bool) → complement n (built n f) ≡ built n (λ t. not (f t))
 unfolding complement
 built-complement n f = built-same n (λ t. not (has (built n f) t)) (λ t. not (f t)) (λ t l. ap not (has-built n f t l))
+-- one number more: it is put in if it passes the test
+pub built-more : (n : ℕ) (f : ℕ → Bool) → built (n + 1) f ≡ cond (f n) (insert (built n f) n) (built n f)
+unfolding built
+built-more n f = rw (add-one n) (go (f n))
+  where
+    go : (b : Bool) → built n f + cond b (2 ^ n) 0 ≡ cond b (insert (built n f) n) (built n f)
+    go true = sym (insert-top n (built n f) (built-lt n f))
+    go false = omega arith
+
+-- what is below n, in both sets, and in a set below n, as numbers that pass a test
+pub below-built : (n : ℕ) → below n ≡ built n (λ t. true)
+below-built n =
+    same-members n (below n) (built n (λ t. true)) (below-lt n) (built-lt n (λ t. true))
+    (λ t l. has-below n t l ∙ sym (has-built n (λ t. true) t l))
+
+pub both-built : (n : ℕ) (f g : ℕ → Bool) → intersection (built n f) (built n g) ≡ built n (λ t. f t && g t)
+both-built n f g =
+    same-members n (intersection (built n f) (built n g)) (built n (λ t. f t && g t))
+    (intersection-lt n (built n f) (built n g) (built-lt n f)) (built-lt n (λ t. f t && g t)) (λ t l.
+    has-intersection (built n f) (built n g) t
+    ∙ (ap₂ (λ a b. a && b) (has-built n f t l) (has-built n g t l) ∙ sym (has-built n (λ t. f t && g t) t l)))
+
+pub cut-built : (n w : ℕ) → intersection (below n) w ≡ built n (has w)
+cut-built n w =
+    same-members n (intersection (below n) w) (built n (has w)) (intersection-lt n (below n) w (below-lt n)) (built-lt n (has w)) (λ t l.
+    has-intersection (below n) w t ∙ (ap (λ b. b && has w t) (has-below n t l) ∙ sym (has-built n (has w) t l)))
 
 -- the complement is all ones of k digits less w, cut to s digits
 flip-test : (d : ℕ) → d < 2 → eqb (1 - d) 1 ≡ not (eqb d 1)
@@ -318,6 +353,10 @@ subset-in k a b p h = subst (λ z. T (eqb z a)) (sym e) (eqb-refl a)
 
     e : bitAnd a b ≡ a
     e = same-digits k (bitAnd a b) a (omega (arith, and-le-l a b)) p (λ t l. digit-and a b t ∙ omega (arith, inside t l))
+
+pub subset-le : (a b : ℕ) → T (subset a b) → a ≤ b
+unfolding subset
+subset-le a b h = omega (arith, eqb→eq (bitAnd a b) a h, and-le-r a b)
 
 pub empty-out : (w : ℕ) → T (empty w) → (t : ℕ) → has w t ≡ false
 unfolding empty

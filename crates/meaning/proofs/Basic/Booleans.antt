@@ -65,6 +65,13 @@ eq-beq a b e = subst (λ c. T (Bool·beq a c)) e (self a)
     self true = tt
     self false = tt
 
+-- two tests that follow from each other
+pub iff-eq : (a b : Bool) → (T a → T b) → (T b → T a) → a ≡ b
+iff-eq true true f g = refl
+iff-eq true false f g = absurd (f tt)
+iff-eq false true f g = absurd (g tt)
+iff-eq false false f g = refl
+
 -- two tests that agree where c holds, and fail where it does not
 pub own-eq : (c a b : Bool) → (T c → a ≡ b) → (T a → T c) → (T b → T c) → a ≡ b
 own-eq c true b h f g = h (f tt)

@@ -1,0 +1,17 @@
+-- The lent steps; rows of words; loops that fill them
+pub mod Component
+pub mod Padded
+pub mod Rows
+pub mod Loops
+pub mod Row
+-- The rule of EX, EG and EU: matching of successors, one round, rounds until unchanged
+pub mod Agree
+pub mod Answers
+pub mod Ruled
+pub mod Sum
+pub mod Refining
+-- Names and count of classes
+pub mod Naming
+-- What the definitions mean; a formula's relation from those of its operands
+pub mod Meaning
+pub mod Formulas

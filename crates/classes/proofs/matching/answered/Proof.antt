@@ -1,0 +1,57 @@
+use native.Mathlib.Omega.{arith}
+use Prim.Native.Nat.{_-_}
+use Rattle.words.specs.Sets.{built}
+use Rattle.classes.specs.Loops.{Filling}
+use Rattle.classes.specs.Matching as matching
+use Rattle.classes.specs.Rows.{rows}
+use Rattle.classes.proofs.Loops.{filling-none, filling-more, filling-end}
+use Rattle.classes.proofs.matching.answered.Statement.{statement}
+use Rattle.classes.proofs.matching.answered.Tie as tie
+
+abbrev Inv-loop : tie.InvT-loop
+Inv-loop succ states inputs r fail result₀ x₀ result x = Filling states (λ x. built states (matching.answers states inputs succ r fail x)) result x
+
+abbrev μ-loop : tie.MeasureT-loop
+μ-loop succ states inputs r fail result₀ x₀ result x = states - x
+
+loop-holds : tie.Need-loop-holds Inv-loop μ-loop
+loop-holds c = filling-none _ _
+
+answered-row-requires : tie.Need-answered-row-requires Inv-loop μ-loop
+answered-row-requires c κs = (c .before .before .before .pre, c .loop-test .taken)
+
+mul-result : tie.Need-mul-result Inv-loop μ-loop
+mul-result c = omega (arith, c .before .before .before .before .pre .most)
+
+array-write-result : tie.Need-array-write-result Inv-loop μ-loop
+array-write-result c = omega (arith, c .before .before .before .before .pre .most)
+
+add-x : tie.Need-add-x Inv-loop μ-loop
+add-x c = omega arith
+
+loop-less : tie.Need-loop-less Inv-loop μ-loop
+loop-less c = omega arith
+
+loop-again : tie.Need-loop-again Inv-loop μ-loop
+loop-again c =
+    let l = c .before .before in
+    filling-more (l .loop .inv) (l .before .before .pre .most) (c .before .loop-test .taken) (c .answered-row .ensures)
+
+returns : tie.Need-returns Inv-loop μ-loop
+unfolding matching.answered rows
+returns c = filling-end (c .before .loop .inv) (c .loop-test .left)
+
+pub answered-spec : {M : Type 1} → statement M
+answered-spec =
+    tie.close
+    (tie.spec
+    Inv-loop
+    μ-loop
+    loop-holds
+    answered-row-requires
+    mul-result
+    array-write-result
+    add-x
+    loop-less
+    loop-again
+    returns)

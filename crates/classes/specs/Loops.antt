@@ -1,0 +1,47 @@
+-- What the loops keep: a word built state by state, and a list of 32 filled state by state.
+use mathlib.Core.Path.{_≡_}
+use mathlib.Core.Bool.{Bool, _&&_}
+use mathlib.Core.List.{List}
+use lib.Dec.{T}
+use lib.ListN.{getD}
+use Prim.Native.Nat.{ℕ, _^_, _≤_, _<_}
+use Rattle.words.specs.Sets.{has, built}
+use Rattle.meaning.specs.Tests.{anyBelow}
+use Rattle.meaning.specs.Classes.{classesBelow}
+use Rattle.meaning.specs.Reference.Tests.{allBelow}
+use Rattle.meaning.specs.Reference.Relation.{largestB}
+use Rattle.classes.specs.Component.{stepTable}
+use Rattle.classes.specs.Rows.{padded, rel}
+use Rattle.classes.specs.Matching.{answersOn}
+
+-- w is the set of the numbers below x that pass f, on the way to n
+pub record Building (n : ℕ) (f : ℕ → Bool) (w x : ℕ) : Type 0 where
+  pub bound : x ≤ n
+  pub word : w ≡ built x f
+
+-- l has f below x, and 0 from x on, on the way to n
+pub record Filling (n : ℕ) (f : ℕ → ℕ) (l : List ℕ) (x : ℕ) : Type 0 where
+  pub bound : x ≤ n
+  pub list : l ≡ padded 32 x f
+
+-- m is the union of the rows of w's members below v, on the way to n
+pub record Joining (n w : ℕ) (r : List ℕ) (m v : ℕ) : Type 0 where
+  pub bound : v ≤ n
+  pub bits : (u : ℕ) → has m u ≡ anyBelow v (λ v. has w v && rel r v u)
+
+-- count is how many states below x are the name of their class, on the way to n
+pub record Counting (n : ℕ) (names : List ℕ) (count x : ℕ) : Type 0 where
+  pub bound : x ≤ n
+  pub few : count ≤ x
+  pub counted : count ≡ classesBelow (λ x. getD names x 0) x
+
+-- w is the set of the states whose successors on the assignments below a are answered by those of x
+pub record Answering (states inputs : ℕ) (succ r : List ℕ) (fail x w a : ℕ) : Type 0 where
+  pub bound : a ≤ 2 ^ inputs
+  pub word : w ≡ built states (λ y. allBelow a (answersOn states inputs succ r fail x y))
+
+-- r lies between the operands' relation and the largest relation inside it that keeps the rule
+pub record Refining (states inputs : ℕ) (succ compared operands : List ℕ) (pass fail : ℕ) (r : List ℕ) : Type 0 where
+  pub inside : (x y : ℕ) → x < states → y < states → T (rel r x y) → T (rel operands x y)
+  pub holds : (x y : ℕ) → x < states → y < states
+      → T (largestB (stepTable states inputs succ) (λ z. getD compared z 0) (rel operands) (has pass) (has fail) x y) → T (rel r x y)

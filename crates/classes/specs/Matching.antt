@@ -1,0 +1,47 @@
+-- What the parts of the code compute: the converse, the states whose successors are matched, the rule for every pair at once.
+use mathlib.Core.Path.{_≡_}
+use mathlib.Core.Bool.{Bool, true, false, _&&_, _||_}
+use mathlib.Core.List.{List}
+use lib.Dec.{eqb}
+use lib.ListN.{getD}
+use Prim.Native.Nat.{ℕ}
+use Rattle.words.specs.Sets.{has, built}
+use Rattle.meaning.specs.Reference.Tests.{allBelow}
+use Rattle.meaning.specs.Reference.Relation.{meetB, matchedB}
+use Rattle.classes.specs.Component.{stepTable}
+use Rattle.classes.specs.Rows.{rel, rows}
+
+-- y and x where x and y are related
+unfoldable pub conversed : ℕ → List ℕ → List ℕ
+conversed n r = rows n (λ x y. rel r y x)
+
+-- by the relation r "each non-FAIL successor of" y "has a related successor of" x: on assignment a, and "on every assignment". Outputs are
+-- not looked at.
+abbrev pub answersOn : ℕ → ℕ → List ℕ → List ℕ → ℕ → ℕ → ℕ → ℕ → Bool
+answersOn states inputs succ r fail x y a = allBelow states (meetB (stepTable states inputs succ) (λ z. 0) (has fail) (λ u v. rel r v u) y x a)
+
+abbrev pub answers : ℕ → ℕ → List ℕ → List ℕ → ℕ → ℕ → ℕ → Bool
+answers states inputs succ r fail x y = matchedB (stepTable states inputs succ) (λ z. 0) (has fail) (λ u v. rel r v u) y x
+
+-- row x has every such y
+unfoldable pub answered : ℕ → ℕ → List ℕ → List ℕ → ℕ → List ℕ
+answered states inputs succ r fail = rows states (answers states inputs succ r fail)
+
+-- the states of own that are PASS with x, FAIL with x, or in alike
+unfoldable pub kept : ℕ → ℕ → ℕ → ℕ → ℕ → ℕ → ℕ
+kept n own pass fail alike x =
+    built n (λ y. has own y && ((has pass x && has pass y) || ((has fail x && has fail y) || has alike y)))
+
+-- the pairs of r that are both PASS, both FAIL, or have equal compared outputs and are related by forth and back
+abbrev pub rules : List ℕ → List ℕ → ℕ → ℕ → List ℕ → List ℕ → ℕ → ℕ → Bool
+rules compared r pass fail forth back x y =
+    rel r x y && ((has pass x && has pass y) || ((has fail x && has fail y)
+    || (eqb (getD compared x 0) (getD compared y 0) && (rel forth x y && rel back x y))))
+
+unfoldable pub ruled : ℕ → List ℕ → List ℕ → ℕ → ℕ → List ℕ → List ℕ → List ℕ
+ruled n compared r pass fail forth back = rows n (rules compared r pass fail forth back)
+
+-- the outcome of a comparison of rows
+pub record Same (a b : List ℕ) (r : Bool) : Type 0 where
+  pub equal : r ≡ true → a ≡ b
+  pub other : r ≡ false → a ≡ b → ⊥
