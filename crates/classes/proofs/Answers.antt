@@ -1,5 +1,5 @@
 -- The states whose successors are answered by those of one state, assignment by assignment.
-use mathlib.Core.Path.{_≡_, ap, _∙_}
+use mathlib.Core.Path.{_≡_, sym, ap, _∙_}
 use mathlib.Core.Bool.{Bool, _&&_}
 use mathlib.Core.List.{List}
 use lib.ListN.{length}
@@ -7,7 +7,7 @@ use native.Mathlib.Numerals.{add-one}
 use native.Mathlib.Omega.{arith}
 use Prim.Native.Nat.{ℕ, _+_, _^_, _≤_, _<_}
 use Rattle.words.specs.Sets.{has, built, below, complement, intersection, subset}
-use Rattle.words.proofs.Members.{built-same, below-built, both-built}
+use Rattle.words.proofs.Built.{built-same, built-below, built-intersection}
 use Rattle.meaning.specs.Tests.{anyBelow}
 use Rattle.meaning.specs.Reference.Tests.{allBelow}
 use Rattle.meaning.specs.Reference.Truth.{upTo}
@@ -28,7 +28,7 @@ on-word states inputs succ r fail x y a =
     (covered-all states (successors inputs succ y a) fail (λ u. anyBelow states (λ v. has (successors inputs succ x a) v && rel r v u)))
 
 pub answering-none : (states inputs : ℕ) (succ r : List ℕ) (fail x : ℕ) → Answering states inputs succ r fail x (below states) 0
-answering-none states inputs succ r fail x = record { bound = omega arith; word = below-built states }
+answering-none states inputs succ r fail x = record { bound = omega arith; word = sym (built-below states) }
 
 pub answering-more : {states inputs : ℕ} {succ r : List ℕ} {fail x w a : ℕ} → Answering states inputs succ r fail x w a → a < 2 ^ inputs
     → {m k v : ℕ}
@@ -36,7 +36,7 @@ pub answering-more : {states inputs : ℕ} {succ r : List ℕ} {fail x w a : ℕ
     → k ≡ built states (λ y. subset (intersection (successors inputs succ y a) (complement states fail)) m)
     → v ≡ intersection k w → Answering states inputs succ r fail x v (a + 1)
 answering-more {states} {inputs} {succ} {r} {fail} {x} {w} {a} h l {m} {k} {v} em ek ev =
-    record { bound = omega arith; word = rw (add-one a) (ev ∙ (rw (on, h .word) (both-built states one some))) }
+    record { bound = omega arith; word = rw (add-one a) (ev ∙ (rw (on, h .word) (built-intersection states one some))) }
   where
     one : ℕ → Bool
     one y = answersOn states inputs succ r fail x y a

@@ -6,7 +6,7 @@ use mathlib.Core.List.{List}
 use lib.ListN.{getD, length}
 use Prim.Native.Nat.{ℕ, _≤_, _<_}
 use Rattle.words.specs.Sets.{has, built}
-use Rattle.words.proofs.Members.{has-built}
+use Rattle.words.proofs.Built.{has-built}
 use Rattle.meaning.specs.Table.{Table, fromWords}
 use Rattle.meaning.specs.Formula.{Formula, top, neg, or, ex, eg, eu}
 use Rattle.meaning.specs.View.{View}

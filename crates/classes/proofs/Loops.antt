@@ -6,7 +6,7 @@ use lib.ListN.{set, replicate}
 use native.Mathlib.Omega.{arith}
 use Prim.Native.Nat.{ℕ, _+_, _≤_, _<_}
 use Rattle.words.specs.Sets.{built, insert}
-use Rattle.words.proofs.Members.{built-more}
+use Rattle.words.proofs.Built.{built-more}
 use Rattle.classes.specs.Rows.{padded}
 use Rattle.classes.specs.Loops.{Building, Filling}
 use Rattle.classes.proofs.Padded.{padded-none, padded-more}

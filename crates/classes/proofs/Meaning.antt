@@ -8,7 +8,7 @@ use lib.ListN.{getD}
 use native.Mathlib.Omega.{arith}
 use Prim.Native.Nat.{ℕ, zero, suc, _+_, _≤_, _<_}
 use Rattle.words.specs.Sets.{has}
-use Rattle.words.proofs.Members.{has-built}
+use Rattle.words.proofs.Built.{has-built}
 use Rattle.meaning.specs.Table.{Table}
 use Rattle.meaning.specs.Relation.{InsidePairs, KeepsRule, LargestRelation, Rule}
 use Rattle.meaning.specs.Classes as classes

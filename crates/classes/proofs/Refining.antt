@@ -8,7 +8,8 @@ use native.Mathlib.Decide.{decLt}
 use native.Mathlib.Omega.{arith}
 use Prim.Native.Nat.{ℕ, _≤_, _<_}
 use Rattle.words.specs.Sets.{has, built}
-use Rattle.words.proofs.Members.{built-lt, has-built, subset-in, subset-le}
+use Rattle.words.proofs.Members.{subset-in, subset-le}
+use Rattle.words.proofs.Built.{built-lt, has-built}
 use Rattle.meaning.specs.Table.{Table}
 use Rattle.meaning.specs.Relation.{LargestRelation, Rule}
 use Rattle.meaning.specs.Reference.Relation.{ruleB, largestB}

@@ -8,8 +8,8 @@ use native.Mathlib.Numerals.{add-one}
 use native.Mathlib.Omega.{arith}
 use Prim.Native.Nat.{ℕ, _+_, _^_, _≤_, _<_}
 use Rattle.words.specs.Sets.{has, built, below, complement, intersection, union, subset}
-use Rattle.words.proofs.Members.{built-same, cut-built, has-built, has-none, has-union, has-intersection, has-complement, complement-lt}
-use Rattle.words.proofs.Members.{intersection-lt-r, subset-in, subset-out}
+use Rattle.words.proofs.Members.{has-none, has-union, has-intersection, intersection-lt-r, subset-in, subset-out}
+use Rattle.words.proofs.Built.{built-same, cut-built, has-built, has-complement, complement-lt}
 use Rattle.meaning.specs.Tests.{anyBelow}
 use Rattle.meaning.specs.Reference.Tests.{allBelow}
 use Rattle.meaning.proofs.Basic.Booleans.{iff-eq, imp-in, imp-out}

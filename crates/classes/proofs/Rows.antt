@@ -7,7 +7,8 @@ use native.Mathlib.Decide.{decLt}
 use native.Mathlib.Omega.{arith}
 use Prim.Native.Nat.{ℕ, _≤_, _<_}
 use Rattle.words.specs.Sets.{has, built}
-use Rattle.words.proofs.Members.{has-built, has-built-lt, built-same, has-none}
+use Rattle.words.proofs.Members.{has-none}
+use Rattle.words.proofs.Built.{has-built, has-built-lt, built-same}
 use Rattle.classes.specs.Rows.{rel, rows}
 use Rattle.classes.proofs.Padded.{length-padded, padded-at, padded-past, padded-same}
 

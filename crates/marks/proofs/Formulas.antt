@@ -4,7 +4,7 @@ use mathlib.Core.Bool.{Bool}
 use lib.Dec.{T}
 use Prim.Native.Nat.{ℕ}
 use Rattle.words.specs.Sets.{has, built}
-use Rattle.words.proofs.Members.{built-lt, built-below, built-empty, built-union, built-intersection}
+use Rattle.words.proofs.Built.{built-lt, built-below, built-empty, built-union, built-intersection}
 use Rattle.meaning.specs.Table.{Table}
 use Rattle.meaning.specs.Formula.{Formula, top, neg, or, ex, eg, eu}
 use Rattle.meaning.specs.View.{View}

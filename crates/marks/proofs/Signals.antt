@@ -6,7 +6,7 @@ use lib.Dec.{T, eqb, eqb→eq, eqb-refl}
 use lib.ListN.{length, getD}
 use Prim.Native.Nat.{ℕ, _<_}
 use Rattle.words.specs.Sets.{has, built}
-use Rattle.words.proofs.Members.{built-same, built-empty}
+use Rattle.words.proofs.Built.{built-same, built-empty}
 use Rattle.meaning.specs.Table.{Table, fromWords, owns, drives}
 use Rattle.meaning.specs.Formula.{atom}
 use Rattle.meaning.specs.View.{signals}

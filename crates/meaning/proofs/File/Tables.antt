@@ -6,7 +6,8 @@ use mathlib.Core.List.{List}
 use lib.Dec.{T, eqb}
 use lib.ListN.{getD, length}
 use Prim.Native.Nat.{_*_, _+_, _<_, _^_, ℕ}
-use Rattle.words.proofs.Members.{built-lt, built-same, some-member}
+use Rattle.words.proofs.Members.{some-member}
+use Rattle.words.proofs.Built.{built-lt, built-same}
 use Rattle.words.specs.Sets.{has}
 use Rattle.meaning.specs.Table.{Table, Total, drives, fromWords, owns, reading}
 use Rattle.meaning.specs.Tests.{listed}

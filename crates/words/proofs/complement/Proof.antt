@@ -1,4 +1,4 @@
-use Rattle.words.proofs.Members.{complement-is}
+use Rattle.words.proofs.Built.{complement-is}
 use borrow.Author.Needs.{needs}
 use Rattle.words.proofs.complement.Statement.{statement}
 use Rattle.words.proofs.complement.Tie as tie

@@ -1,4 +1,4 @@
-use Rattle.words.proofs.Members.{trailing-lowest}
+use Rattle.words.proofs.Counts.{trailing-lowest}
 use Rattle.words.proofs.lowest.Statement.{statement}
 use Rattle.words.proofs.lowest.Tie as tie
 

@@ -1,4 +1,4 @@
-use Rattle.words.proofs.Members.{ones-size}
+use Rattle.words.proofs.Counts.{ones-size}
 use Rattle.words.proofs.size.Statement.{statement}
 use Rattle.words.proofs.size.Tie as tie
 

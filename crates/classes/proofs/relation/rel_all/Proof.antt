@@ -1,8 +1,8 @@
-use mathlib.Core.Path.{refl, _∙_}
+use mathlib.Core.Path.{refl, sym, _∙_}
 use native.Mathlib.Omega.{arith}
 use Prim.Native.Nat.{_-_}
 use borrow.Author.Needs.{needs}
-use Rattle.words.proofs.Members.{below-built}
+use Rattle.words.proofs.Built.{built-below}
 use Rattle.classes.specs.Loops.{Filling}
 use Rattle.classes.specs.Related as related
 use Rattle.classes.specs.Rows.{rows}
@@ -45,7 +45,7 @@ returns : tie.Need-returns Inv-loop μ-loop
 unfolding related.relatedAll rows
 returns c =
     filling-end (c .before .loop .inv) (c .loop-test .left)
-    ∙ padded-same 32 _ _ _ (c .before .before .before .pre) (λ z l. c .before .before .below .ensures ∙ below-built _)
+    ∙ padded-same 32 _ _ _ (c .before .before .before .pre) (λ z l. c .before .before .below .ensures ∙ sym (built-below _))
 
 pub rel-all-spec : {M : Type 1} → statement M
 rel-all-spec =
