@@ -115,7 +115,7 @@ pub fn rel_fixed(
     loop {
         let next = rel_ex(succ, states, inputs, compared, r, pass, fail, fail);
         if same(next, r) {
-            return r;
+            return next;
         }
         r = next;
     }
