@@ -6,7 +6,7 @@ pub mod Loops
 pub mod Row
 -- The rule of EX, EG and EU: matching of successors, one round, rounds until unchanged
 pub mod Agree
-pub mod Answers
+pub mod Matched
 pub mod Ruled
 pub mod Sum
 pub mod Refining

@@ -1,4 +1,4 @@
--- What the loops keep: a word built state by state, and a list of 32 filled state by state.
+-- What the loops keep: a word built state by state, a list of 32 filled state by state, and the like.
 use mathlib.Core.Path.{_≡_}
 use mathlib.Core.Bool.{Bool, _&&_}
 use mathlib.Core.List.{List}
@@ -12,7 +12,7 @@ use Rattle.meaning.specs.Reference.Tests.{allBelow}
 use Rattle.meaning.specs.Reference.Relation.{largestB}
 use Rattle.classes.specs.Component.{stepTable}
 use Rattle.classes.specs.Rows.{padded, rel}
-use Rattle.classes.specs.Matching.{answersOn}
+use Rattle.classes.specs.Matching.{matchedOn}
 
 -- w is the set of the numbers below x that pass f, on the way to n
 pub record Building (n : ℕ) (f : ℕ → Bool) (w x : ℕ) : Type 0 where
@@ -35,10 +35,10 @@ pub record Counting (n : ℕ) (names : List ℕ) (count x : ℕ) : Type 0 where
   pub few : count ≤ x
   pub counted : count ≡ classesBelow (λ x. getD names x 0) x
 
--- w is the set of the states whose successors on the assignments below a are answered by those of x
-pub record Answering (states inputs : ℕ) (succ r : List ℕ) (fail x w a : ℕ) : Type 0 where
+-- w is the set of the states whose successors on the assignments below a are matched by those of x
+pub record MatchingOn (states inputs : ℕ) (succ r : List ℕ) (fail x w a : ℕ) : Type 0 where
   pub bound : a ≤ 2 ^ inputs
-  pub word : w ≡ built states (λ y. allBelow a (answersOn states inputs succ r fail x y))
+  pub word : w ≡ built states (λ y. allBelow a (matchedOn states inputs succ r fail x y))
 
 -- r lies between the operands' relation and the largest relation inside it that keeps the rule
 pub record Refining (states inputs : ℕ) (succ compared operands : List ℕ) (pass fail : ℕ) (r : List ℕ) : Type 0 where

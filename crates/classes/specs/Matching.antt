@@ -17,15 +17,15 @@ conversed n r = rows n (λ x y. rel r y x)
 
 -- by the relation r "each non-FAIL successor of" y "has a related successor of" x: on assignment a, and "on every assignment". Outputs are
 -- not looked at.
-abbrev pub answersOn : ℕ → ℕ → List ℕ → List ℕ → ℕ → ℕ → ℕ → ℕ → Bool
-answersOn states inputs succ r fail x y a = allBelow states (meetB (stepTable states inputs succ) (λ z. 0) (has fail) (λ u v. rel r v u) y x a)
+abbrev pub matchedOn : ℕ → ℕ → List ℕ → List ℕ → ℕ → ℕ → ℕ → ℕ → Bool
+matchedOn states inputs succ r fail x y a = allBelow states (meetB (stepTable states inputs succ) (λ z. 0) (has fail) (λ u v. rel r v u) y x a)
 
-abbrev pub answers : ℕ → ℕ → List ℕ → List ℕ → ℕ → ℕ → ℕ → Bool
-answers states inputs succ r fail x y = matchedB (stepTable states inputs succ) (λ z. 0) (has fail) (λ u v. rel r v u) y x
+abbrev pub matchedBy : ℕ → ℕ → List ℕ → List ℕ → ℕ → ℕ → ℕ → Bool
+matchedBy states inputs succ r fail x y = matchedB (stepTable states inputs succ) (λ z. 0) (has fail) (λ u v. rel r v u) y x
 
 -- row x has every such y
-unfoldable pub answered : ℕ → ℕ → List ℕ → List ℕ → ℕ → List ℕ
-answered states inputs succ r fail = rows states (answers states inputs succ r fail)
+unfoldable pub matchedRows : ℕ → ℕ → List ℕ → List ℕ → ℕ → List ℕ
+matchedRows states inputs succ r fail = rows states (matchedBy states inputs succ r fail)
 
 -- the states of own that are PASS with x, FAIL with x, or in alike
 unfoldable pub kept : ℕ → ℕ → ℕ → ℕ → ℕ → ℕ → ℕ

@@ -35,7 +35,7 @@ fn image(r: [u32; 32], states: usize, w: u32) -> u32
     words::intersection(words::below(states as u32), result)
 }
 
-// The states whose live successors on assignment a are all in m.
+// The states whose live successors on assignment a, those that are not FAIL, are all in m.
 fn covered(succ: &[u32], states: usize, inputs: usize, a: usize, live: u32, m: u32) -> u32
     requires { ⌜ component.Steps states inputs (now succ) × (a < 2 ^ inputs) ⌝ }
     ensures { λ r.
@@ -52,16 +52,9 @@ fn covered(succ: &[u32], states: usize, inputs: usize, a: usize, live: u32, m: u
 }
 
 // The states of which, on every assignment, each non-FAIL successor has a successor of x that is related to it.
-fn answered_row(
-    succ: &[u32],
-    states: usize,
-    inputs: usize,
-    r: [u32; 32],
-    fail: u32,
-    x: usize,
-) -> u32
+fn matched_row(succ: &[u32], states: usize, inputs: usize, r: [u32; 32], fail: u32, x: usize) -> u32
     requires { ⌜ component.Steps states inputs (now succ) × (x < states) ⌝ }
-    ensures { λ w. ⌜ w ≡ sets.built states (matched.answers states inputs (now (succ .entry)) r fail x) ⌝ }
+    ensures { λ w. ⌜ w ≡ sets.built states (matched.matchedBy states inputs (now (succ .entry)) r fail x) ⌝ }
 {
     let live = words::complement(fail, states as u32);
     let count = 1usize << inputs;
@@ -76,7 +69,7 @@ fn answered_row(
 }
 
 // The same for every state x.
-pub(crate) fn answered(
+pub(crate) fn matched_rows(
     succ: &[u32],
     states: usize,
     inputs: usize,
@@ -84,12 +77,12 @@ pub(crate) fn answered(
     fail: u32,
 ) -> [u32; 32]
     requires { ⌜ component.Steps states inputs (now succ) ⌝ }
-    ensures { λ s. ⌜ s ≡ matched.answered states inputs (now (succ .entry)) r fail ⌝ }
+    ensures { λ s. ⌜ s ≡ matched.matchedRows states inputs (now (succ .entry)) r fail ⌝ }
 {
     let mut result = [0u32; 32];
     let mut x: usize = 0;
     while x < states {
-        result[x] = answered_row(succ, states, inputs, r, fail, x);
+        result[x] = matched_row(succ, states, inputs, r, fail, x);
         x += 1;
     }
     result

@@ -1,5 +1,5 @@
 // The rule of EX, EG and EU for every pair of states at once, and the largest relation that keeps it (document 01, Classes).
-use crate::matching::answered;
+use crate::matching::matched_rows;
 use crate::relation::converse;
 use crate::relation::pick;
 use crate::relation::put;
@@ -77,10 +77,10 @@ pub fn rel_ex(
     requires { ⌜ Steps states inputs (now succ) × (states ≤ length (now compared)) ⌝ }
     ensures { λ s. ⌜ s ≡ relatedEx states inputs (now (succ .entry)) (now (compared .entry)) operand pass fail «operand_fail» ⌝ }
 {
-    let back = answered(succ, states, inputs, operand, operand_fail);
-    let turned = converse(operand, states);
-    let ahead = answered(succ, states, inputs, turned, operand_fail);
-    let forth = converse(ahead, states);
+    let back = matched_rows(succ, states, inputs, operand, operand_fail);
+    let opposite = converse(operand, states);
+    let columns = matched_rows(succ, states, inputs, opposite, operand_fail);
+    let forth = converse(columns, states);
     ruled(compared, states, operand, pass, fail, forth, back)
 }
 
@@ -115,7 +115,7 @@ pub fn rel_fixed(
     loop {
         let next = rel_ex(succ, states, inputs, compared, r, pass, fail, fail);
         if same(next, r) {
-            return r;
+            return next;
         }
         r = next;
     }

@@ -25,8 +25,8 @@ same-requires c κs = tt
 returns : tie.Need-returns Inv-loop μ-loop
 returns c =
     let l = c .before .before .before in
-    refining-end _ _ _ _ (l .before .before .before .pre .0 .most) _ _ _ _ (l .loop .inv .1)
-    (sym (c .before .before .rel-ex .ensures) ∙ c .before .same .ensures .equal (c .if1 .taken))
+    let e = c .before .same .ensures .equal (c .if1 .taken) in
+    e ∙ refining-end _ _ _ _ (l .before .before .before .pre .0 .most) _ _ _ _ (l .loop .inv .1) (sym (c .before .before .rel-ex .ensures) ∙ e)
 
 loop-less : tie.Need-loop-less Inv-loop μ-loop
 loop-less c =

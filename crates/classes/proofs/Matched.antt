@@ -1,5 +1,10 @@
+<<<<<<< HEAD:crates/classes/proofs/Answers.antt
 -- The states whose successors are answered by those of one state, assignment by assignment.
 use mathlib.Core.Path.{_≡_, sym, ap, _∙_}
+=======
+-- The states whose successors are matched by those of one state, assignment by assignment.
+use mathlib.Core.Path.{_≡_, ap, _∙_}
+>>>>>>> 966b7f2ea0ef33967af6cb1f8c72ec00d01feace:crates/classes/proofs/Matched.antt
 use mathlib.Core.Bool.{Bool, _&&_}
 use mathlib.Core.List.{List}
 use lib.ListN.{length}
@@ -14,43 +19,54 @@ use Rattle.meaning.specs.Reference.Truth.{upTo}
 use Rattle.meaning.proofs.Meaning.Full.{length-upTo}
 use Rattle.classes.specs.Component.{successors}
 use Rattle.classes.specs.Rows.{rel}
-use Rattle.classes.specs.Matching.{answersOn, answers}
-use Rattle.classes.specs.Loops.{Answering}
+use Rattle.classes.specs.Matching.{matchedOn, matchedBy}
+use Rattle.classes.specs.Loops.{MatchingOn}
 use Rattle.classes.proofs.Row.{covered-all}
 
 -- one assignment: the code's test by words
 on-word : (states inputs : ℕ) (succ r : List ℕ) (fail x y a : ℕ)
     → subset (intersection (successors inputs succ y a) (complement states fail))
     (built states (λ u. anyBelow states (λ v. has (successors inputs succ x a) v && rel r v u)))
-    ≡ answersOn states inputs succ r fail x y a
+    ≡ matchedOn states inputs succ r fail x y a
 on-word states inputs succ r fail x y a =
     rw (length-upTo inputs)
     (covered-all states (successors inputs succ y a) fail (λ u. anyBelow states (λ v. has (successors inputs succ x a) v && rel r v u)))
 
+<<<<<<< HEAD:crates/classes/proofs/Answers.antt
 pub answering-none : (states inputs : ℕ) (succ r : List ℕ) (fail x : ℕ) → Answering states inputs succ r fail x (below states) 0
 answering-none states inputs succ r fail x = record { bound = omega arith; word = sym (built-below states) }
+=======
+pub matching-none : (states inputs : ℕ) (succ r : List ℕ) (fail x : ℕ) → MatchingOn states inputs succ r fail x (below states) 0
+matching-none states inputs succ r fail x = record { bound = omega arith; word = below-built states }
+>>>>>>> 966b7f2ea0ef33967af6cb1f8c72ec00d01feace:crates/classes/proofs/Matched.antt
 
-pub answering-more : {states inputs : ℕ} {succ r : List ℕ} {fail x w a : ℕ} → Answering states inputs succ r fail x w a → a < 2 ^ inputs
+pub matching-more : {states inputs : ℕ} {succ r : List ℕ} {fail x w a : ℕ} → MatchingOn states inputs succ r fail x w a → a < 2 ^ inputs
     → {m k v : ℕ}
     → m ≡ built states (λ u. anyBelow states (λ v. has (successors inputs succ x a) v && rel r v u))
     → k ≡ built states (λ y. subset (intersection (successors inputs succ y a) (complement states fail)) m)
+<<<<<<< HEAD:crates/classes/proofs/Answers.antt
     → v ≡ intersection k w → Answering states inputs succ r fail x v (a + 1)
 answering-more {states} {inputs} {succ} {r} {fail} {x} {w} {a} h l {m} {k} {v} em ek ev =
     record { bound = omega arith; word = rw (add-one a) (ev ∙ (rw (on, h .word) (built-intersection states one some))) }
+=======
+    → v ≡ intersection k w → MatchingOn states inputs succ r fail x v (a + 1)
+matching-more {states} {inputs} {succ} {r} {fail} {x} {w} {a} h l {m} {k} {v} em ek ev =
+    record { bound = omega arith; word = rw (add-one a) (ev ∙ (rw (on, h .word) (both-built states one some))) }
+>>>>>>> 966b7f2ea0ef33967af6cb1f8c72ec00d01feace:crates/classes/proofs/Matched.antt
   where
     one : ℕ → Bool
-    one y = answersOn states inputs succ r fail x y a
+    one y = matchedOn states inputs succ r fail x y a
 
     some : ℕ → Bool
-    some y = allBelow a (answersOn states inputs succ r fail x y)
+    some y = allBelow a (matchedOn states inputs succ r fail x y)
 
     on : k ≡ built states one
     on =
         ek ∙ built-same states (λ y. subset (intersection (successors inputs succ y a) (complement states fail)) m) one
         (λ y l. rw em (on-word states inputs succ r fail x y a))
 
-pub answering-end : {states inputs : ℕ} {succ r : List ℕ} {fail x w a : ℕ} → Answering states inputs succ r fail x w a → 2 ^ inputs ≤ a
-    → w ≡ built states (answers states inputs succ r fail x)
-answering-end {states} {inputs} {succ} {r} {fail} {x} {w} {a} h l =
+pub matching-end : {states inputs : ℕ} {succ r : List ℕ} {fail x w a : ℕ} → MatchingOn states inputs succ r fail x w a → 2 ^ inputs ≤ a
+    → w ≡ built states (matchedBy states inputs succ r fail x)
+matching-end {states} {inputs} {succ} {r} {fail} {x} {w} {a} h l =
     let e : a ≡ 2 ^ length (upTo inputs) = let b = h .bound in rw (length-upTo inputs) (omega arith) in
-    h .word ∙ ap (λ z. built states (λ y. allBelow z (answersOn states inputs succ r fail x y))) e
+    h .word ∙ ap (λ z. built states (λ y. allBelow z (matchedOn states inputs succ r fail x y))) e

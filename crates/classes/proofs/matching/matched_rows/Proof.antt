@@ -5,11 +5,11 @@ use Rattle.classes.specs.Loops.{Filling}
 use Rattle.classes.specs.Matching as matching
 use Rattle.classes.specs.Rows.{rows}
 use Rattle.classes.proofs.Loops.{filling-none, filling-more, filling-end}
-use Rattle.classes.proofs.matching.answered.Statement.{statement}
-use Rattle.classes.proofs.matching.answered.Tie as tie
+use Rattle.classes.proofs.matching.matched_rows.Statement.{statement}
+use Rattle.classes.proofs.matching.matched_rows.Tie as tie
 
 abbrev Inv-loop : tie.InvT-loop
-Inv-loop succ states inputs r fail result₀ x₀ result x = Filling states (λ x. built states (matching.answers states inputs succ r fail x)) result x
+Inv-loop succ states inputs r fail result₀ x₀ result x = Filling states (λ x. built states (matching.matchedBy states inputs succ r fail x)) result x
 
 abbrev μ-loop : tie.MeasureT-loop
 μ-loop succ states inputs r fail result₀ x₀ result x = states - x
@@ -17,8 +17,8 @@ abbrev μ-loop : tie.MeasureT-loop
 loop-holds : tie.Need-loop-holds Inv-loop μ-loop
 loop-holds c = filling-none _ _
 
-answered-row-requires : tie.Need-answered-row-requires Inv-loop μ-loop
-answered-row-requires c κs = (c .before .before .before .pre, c .loop-test .taken)
+matched-row-requires : tie.Need-matched-row-requires Inv-loop μ-loop
+matched-row-requires c κs = (c .before .before .before .pre, c .loop-test .taken)
 
 mul-result : tie.Need-mul-result Inv-loop μ-loop
 mul-result c = omega (arith, c .before .before .before .before .pre .most)
@@ -35,20 +35,20 @@ loop-less c = omega arith
 loop-again : tie.Need-loop-again Inv-loop μ-loop
 loop-again c =
     let l = c .before .before in
-    filling-more (l .loop .inv) (l .before .before .pre .most) (c .before .loop-test .taken) (c .answered-row .ensures)
+    filling-more (l .loop .inv) (l .before .before .pre .most) (c .before .loop-test .taken) (c .matched-row .ensures)
 
 returns : tie.Need-returns Inv-loop μ-loop
-unfolding matching.answered rows
+unfolding matching.matchedRows rows
 returns c = filling-end (c .before .loop .inv) (c .loop-test .left)
 
-pub answered-spec : {M : Type 1} → statement M
-answered-spec =
+pub matched-rows-spec : {M : Type 1} → statement M
+matched-rows-spec =
     tie.close
     (tie.spec
     Inv-loop
     μ-loop
     loop-holds
-    answered-row-requires
+    matched-row-requires
     mul-result
     array-write-result
     add-x

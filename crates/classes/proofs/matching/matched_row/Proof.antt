@@ -2,14 +2,14 @@ use mathlib.Core.Path.{_≡_, _∙_}
 use native.Mathlib.Omega.{arith}
 use Prim.Native.Nat.{_-_, _^_}
 use Rattle.words.proofs.Digits.{power-word}
-use Rattle.classes.specs.Loops.{Answering}
-use Rattle.classes.proofs.Answers.{answering-none, answering-more, answering-end}
+use Rattle.classes.specs.Loops.{MatchingOn}
+use Rattle.classes.proofs.Matched.{matching-none, matching-more, matching-end}
 use Rattle.classes.proofs.Component.{within}
-use Rattle.classes.proofs.matching.answered_row.Statement.{statement}
-use Rattle.classes.proofs.matching.answered_row.Tie as tie
+use Rattle.classes.proofs.matching.matched_row.Statement.{statement}
+use Rattle.classes.proofs.matching.matched_row.Tie as tie
 
 abbrev Inv-loop : tie.InvT-loop
-Inv-loop succ states inputs r fail x live count result₀ a₀ result a = (count ≡ 2 ^ inputs) × Answering states inputs succ r fail x result a
+Inv-loop succ states inputs r fail x live count result₀ a₀ result a = (count ≡ 2 ^ inputs) × MatchingOn states inputs succ r fail x result a
 
 abbrev μ-loop : tie.MeasureT-loop
 μ-loop succ states inputs r fail x live count result₀ a₀ result a = count - a
@@ -32,7 +32,7 @@ below-requires c κs = c .before .before .pre .0 .most
 loop-holds : tie.Need-loop-holds Inv-loop μ-loop
 loop-holds c =
     let s = c .before .before .before in
-    (power-word 64 _ (omega (arith, s .pre .0 .few)), rw (c .below .ensures) (answering-none _ _ _ _ _ _))
+    (power-word 64 _ (omega (arith, s .pre .0 .few)), rw (c .below .ensures) (matching-none _ _ _ _ _ _))
 
 successors-requires : tie.Need-successors-requires Inv-loop μ-loop
 successors-requires c κs =
@@ -59,15 +59,15 @@ loop-again c =
     let i = c .before .before in
     let l = i .before .before .before in (
       l .loop .inv .0,
-      answering-more (l .loop .inv .1) (omega arith) (i .image .ensures ∙ rw (i .before .successors .ensures))
+      matching-more (l .loop .inv .1) (omega arith) (i .image .ensures ∙ rw (i .before .successors .ensures))
           (c .before .covered .ensures ∙ rw (l .before .before .complement .ensures)) (c .intersection .ensures),
     )
 
 returns : tie.Need-returns Inv-loop μ-loop
-returns c = answering-end (c .before .loop .inv .1) (omega arith)
+returns c = matching-end (c .before .loop .inv .1) (omega arith)
 
-pub answered-row-spec : {M : Type 1} → statement M
-answered-row-spec =
+pub matched-row-spec : {M : Type 1} → statement M
+matched-row-spec =
     tie.close
     (tie.spec
     Inv-loop
