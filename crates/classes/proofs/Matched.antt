@@ -1,10 +1,5 @@
-<<<<<<< HEAD:crates/classes/proofs/Answers.antt
--- The states whose successors are answered by those of one state, assignment by assignment.
-use mathlib.Core.Path.{_≡_, sym, ap, _∙_}
-=======
 -- The states whose successors are matched by those of one state, assignment by assignment.
-use mathlib.Core.Path.{_≡_, ap, _∙_}
->>>>>>> 966b7f2ea0ef33967af6cb1f8c72ec00d01feace:crates/classes/proofs/Matched.antt
+use mathlib.Core.Path.{_≡_, sym, ap, _∙_}
 use mathlib.Core.Bool.{Bool, _&&_}
 use mathlib.Core.List.{List}
 use lib.ListN.{length}
@@ -32,27 +27,16 @@ on-word states inputs succ r fail x y a =
     rw (length-upTo inputs)
     (covered-all states (successors inputs succ y a) fail (λ u. anyBelow states (λ v. has (successors inputs succ x a) v && rel r v u)))
 
-<<<<<<< HEAD:crates/classes/proofs/Answers.antt
-pub answering-none : (states inputs : ℕ) (succ r : List ℕ) (fail x : ℕ) → Answering states inputs succ r fail x (below states) 0
-answering-none states inputs succ r fail x = record { bound = omega arith; word = sym (built-below states) }
-=======
 pub matching-none : (states inputs : ℕ) (succ r : List ℕ) (fail x : ℕ) → MatchingOn states inputs succ r fail x (below states) 0
-matching-none states inputs succ r fail x = record { bound = omega arith; word = below-built states }
->>>>>>> 966b7f2ea0ef33967af6cb1f8c72ec00d01feace:crates/classes/proofs/Matched.antt
+matching-none states inputs succ r fail x = record { bound = omega arith; word = sym (built-below states) }
 
 pub matching-more : {states inputs : ℕ} {succ r : List ℕ} {fail x w a : ℕ} → MatchingOn states inputs succ r fail x w a → a < 2 ^ inputs
     → {m k v : ℕ}
     → m ≡ built states (λ u. anyBelow states (λ v. has (successors inputs succ x a) v && rel r v u))
     → k ≡ built states (λ y. subset (intersection (successors inputs succ y a) (complement states fail)) m)
-<<<<<<< HEAD:crates/classes/proofs/Answers.antt
-    → v ≡ intersection k w → Answering states inputs succ r fail x v (a + 1)
-answering-more {states} {inputs} {succ} {r} {fail} {x} {w} {a} h l {m} {k} {v} em ek ev =
-    record { bound = omega arith; word = rw (add-one a) (ev ∙ (rw (on, h .word) (built-intersection states one some))) }
-=======
     → v ≡ intersection k w → MatchingOn states inputs succ r fail x v (a + 1)
 matching-more {states} {inputs} {succ} {r} {fail} {x} {w} {a} h l {m} {k} {v} em ek ev =
-    record { bound = omega arith; word = rw (add-one a) (ev ∙ (rw (on, h .word) (both-built states one some))) }
->>>>>>> 966b7f2ea0ef33967af6cb1f8c72ec00d01feace:crates/classes/proofs/Matched.antt
+    record { bound = omega arith; word = rw (add-one a) (ev ∙ (rw (on, h .word) (built-intersection states one some))) }
   where
     one : ℕ → Bool
     one y = matchedOn states inputs succ r fail x y a

@@ -5,10 +5,10 @@ use lib.Count.{ones, ones-step, trailingZeros, under}
 use lib.Dec.{T, eqb}
 use native.Mathlib.Nat.{not-suc-le-zero}
 use native.Mathlib.Omega.{arith}
-use Prim.Native.Nat.{_%_, _+_, _/_, _<_, _^_, _≤_, suc, zero, ℕ}
+use Prim.Native.Nat.{_%_, _+_, _/_, _<_, _^_, suc, zero, ℕ}
 use Rattle.words.proofs.Digits.{digit-suc, digit-zero, double}
 use Rattle.words.proofs.Members.{has-one, one-has}
-use Rattle.words.specs.Sets.{has, lowest, size}
+use Rattle.words.specs.Sets.{Lowest, has, lowest, size}
 
 -- the lowest member
 low-test : (d x : ℕ) → d < 2 → under d x ≡ cond (eqb d 1) 0 (suc x)
@@ -21,12 +21,6 @@ unfolding trailingZeros lowest
 trailing-lowest zero w = refl
 trailing-lowest (suc k) w =
     low-test (w % 2) (trailingZeros k (w / 2)) (omega arith) ∙ ap (λ z. cond (eqb (w % 2) 1) 0 (suc z)) (trailing-lowest k (w / 2))
-
--- z is the lowest of the first k numbers that is in w
-pub record Lowest (k w z : ℕ) : Type 0 where
-  pub inside : z < k
-  pub member : T (has w z)
-  pub least : (t : ℕ) → T (has w t) → z ≤ t
 
 pub lowest-is : (k w t : ℕ) → t < k → T (has w t) → Lowest k w (lowest k w)
 unfolding lowest

@@ -1,8 +1,8 @@
 -- Sets of small numbers as words, for every width: t is in w where digit t of w is 1 (document 01: "bit t for state t").
 use mathlib.Core.Bool.{Bool, not, cond}
 use lib.Bits.{bitAnd, bitOr}
-use lib.Dec.{eqb}
-use Prim.Native.Nat.{ℕ, zero, suc, _+_, _-_, _/_, _%_, _^_}
+use lib.Dec.{T, eqb}
+use Prim.Native.Nat.{ℕ, zero, suc, _+_, _-_, _/_, _%_, _^_, _≤_, _<_}
 
 -- digit t of w, 0 or 1
 unfoldable pub digit : ℕ → ℕ → ℕ
@@ -49,6 +49,12 @@ empty w = eqb w 0
 unfoldable pub lowest : ℕ → ℕ → ℕ
 lowest zero w = 0
 lowest (suc k) w = cond (eqb (w % 2) 1) 0 (suc (lowest k (w / 2)))
+
+-- z is the lowest of the first k numbers that is in w
+pub record Lowest (k w z : ℕ) : Type 0 where
+  pub inside : z < k
+  pub member : T (has w z)
+  pub least : (t : ℕ) → T (has w t) → z ≤ t
 
 -- how many members are below k
 unfoldable pub size : ℕ → ℕ → ℕ
