@@ -12,7 +12,8 @@ use Rattle.words.proofs.Built.{has-built}
 use Rattle.meaning.specs.Table.{Table}
 use Rattle.meaning.specs.Relation.{InsidePairs, KeepsRule, LargestRelation, Rule}
 use Rattle.meaning.specs.Classes as classes
-use Rattle.meaning.specs.Classes.{ClassNames, Equivalence, classesBelow}
+use Rattle.meaning.specs.Classes.{ClassNames, classesBelow}
+use Rattle.meaning.proofs.Basic.Equivalence.{Equivalence}
 use Rattle.meaning.specs.Reference.Relation.{className, largestB, ruleB}
 use Rattle.meaning.proofs.Basic.Booleans.{beq-eq, eq-beq}
 use Rattle.meaning.proofs.Basic.Bounded.{any-in}
