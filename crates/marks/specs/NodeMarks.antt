@@ -1,0 +1,73 @@
+-- The marks of every component and node: the rule that a node's kind picks, a formula's nodes on one component, and all components (document
+-- 01, Marks and The instrument file).
+use mathlib.Core.Path.{_≡_}
+use mathlib.Core.List.{List, [], _∷_}
+use lib.ListN.{length, getD, replicate}
+use lib.Seq.{sets}
+use Prim.Native.Nat.{ℕ, zero, suc, _≤_, _<_}
+use Rattle.meaning.specs.Formula.{atom}
+use Rattle.meaning.specs.Nodes as formula
+use Rattle.meaning.specs.Nodes.{Earlier, nodeAt, formulaAt}
+use Rattle.meaning.specs.Table.{Table, fromWords}
+use Rattle.meaning.specs.Instrument as meaning
+use Rattle.meaning.specs.Instrument.{components, table}
+use Rattle.meaning.specs.File.Grammar.{Contents, instrumentOf, limits}
+use Rattle.meaning.specs.View.{wholeWords}
+use Rattle.meaning.specs.Reference.Answers.{listBelow, joinBelow, passWord, failWord}
+use Rattle.instrument.specs.declared.Node.{Node}
+use Rattle.instrument.specs.declared.Instrument.{Instrument}
+use Rattle.instrument.specs.Layout.{nodeOf}
+use Rattle.instrument.specs.Described.{Describes}
+use Rattle.marks.specs.declared.Mark.{Mark}
+use Rattle.marks.specs.Component.{stepTable}
+use Rattle.marks.specs.Formulas.{formulaMark}
+use Rattle.marks.specs.Rules.{trueMark, foreignMark, notMark, orMark, exMark, egMark, euMark}
+
+-- no state is marked
+abbrev pub noMark : Mark
+noMark = record { pass = 0; fail = 0 }
+
+-- own and foreign signals: the marks look at the outputs of a table alone
+unfoldable pub signalMark : ℕ → List ℕ → List ℕ → ℕ → Mark
+signalMark states outputs outs w = let t = fromWords states [] outputs outs [] in formulaMark t (wholeWords t) (atom w)
+
+-- the kind picks the rule: w is the operand of a signal node, a and b are the marks of the operands otherwise; no known kind, no mark
+abbrev pub kindMark : ℕ → ℕ → List ℕ → List ℕ → List ℕ → ℕ → ℕ → Mark → Mark → Mark
+kindMark states inputs outputs outs succ zero w a b = trueMark states
+kindMark states inputs outputs outs succ (suc zero) w a b = signalMark states outputs outs w
+kindMark states inputs outputs outs succ (suc (suc zero)) w a b = notMark a
+kindMark states inputs outputs outs succ (suc (suc (suc zero))) w a b = orMark a b
+kindMark states inputs outputs outs succ (suc (suc (suc (suc zero)))) w a b = exMark (stepTable states inputs succ) a
+kindMark states inputs outputs outs succ (suc (suc (suc (suc (suc zero))))) w a b = egMark (stepTable states inputs succ) a
+kindMark states inputs outputs outs succ (suc (suc (suc (suc (suc (suc zero)))))) w a b = euMark (stepTable states inputs succ) a b
+kindMark states inputs outputs outs succ (suc (suc (suc (suc (suc (suc (suc unknown))))))) w a b = noMark
+
+-- the node's operands, as far as it has any, are nodes
+pub record Operands (node : Node) : Type 0 where
+  pub left : 2 ≤ node .kind → node .left < limits .nodes
+  pub or-right : node .kind ≡ 3 → node .right < limits .nodes
+  pub eu-right : node .kind ≡ 6 → node .right < limits .nodes
+
+-- an array that lists a formula's nodes, with their count
+pub record Listing (nodes : List Node) (count : ℕ) (ns : List (formula.Node ℕ)) : Type 0 where
+  pub at : (k : ℕ) → getD nodes k (nodeOf formula.Node.top) ≡ nodeOf (nodeAt ns k)
+  pub long : count ≡ length ns
+  pub room : length ns ≤ limits .nodes
+  pub earlier : Earlier ns
+
+-- the marks of a table for each of a formula's nodes, no mark past the last one
+unfoldable pub listMarks : Table → List (formula.Node ℕ) → List Mark
+listMarks t ns = sets (replicate (limits .nodes) noMark) 0 (listBelow (length ns) (λ k. formulaMark t (wholeWords t) (formulaAt ns k)))
+
+-- the marks of all components, no mark past the last one
+unfoldable pub marksOf : meaning.Instrument → List (List Mark)
+marksOf I =
+    sets (replicate (limits .components) (replicate (limits .nodes) noMark)) 0
+    (listBelow (components I) (λ i. listMarks (table I i) (I .nodes)))
+
+-- a mark as words, PASS then FAIL, and so many marks
+abbrev pub pairAt : List Mark → ℕ → List ℕ
+pairAt row k = getD row k noMark .pass ∷ getD row k noMark .fail ∷ []
+
+abbrev pub rowWords : List Mark → ℕ → List ℕ
+rowWords row count = joinBelow count (pairAt row)
