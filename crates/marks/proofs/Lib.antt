@@ -12,3 +12,6 @@ pub mod Tables
 -- for all nodes
 pub mod Written
 pub mod NodeMarks
+-- for all components
+pub mod Parts
+pub mod AllMarks

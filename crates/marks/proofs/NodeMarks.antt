@@ -1,29 +1,33 @@
 -- The rule that a node's kind picks, applied to the marks of its operands, gives the marks of its formula.
 use mathlib.Core.Path.{_≡_, refl, ap, _∙_}
 use mathlib.Core.List.{List, [], _∷_}
-use lib.ListN.{length, getD, replicate}
+use lib.ListN.{length, getD, set, replicate}
+use lib.Seq.{sets}
 use lib.Pow.{pow-pos}
 use native.Mathlib.Decide.{decLt}
 use native.Mathlib.Omega.{arith}
-use Prim.Native.Nat.{ℕ, suc, _-_, _*_, _≤_, _<_}
+use Prim.Native.Nat.{ℕ, suc, _+_, _-_, _*_, _≤_, _<_}
 use Rattle.meaning.specs.Formula.{Formula}
 use Rattle.meaning.specs.Nodes.{Node, top, atom, neg, or, ex, eg, eu, Operand, of-neg, of-or-l, of-or-r, of-ex, of-eg, of-eu-l, of-eu-r}
 use Rattle.meaning.specs.Nodes.{nodeAt, formulaOf, formulaAt}
 use Rattle.meaning.specs.Table.{Table, fromWords}
+use Rattle.meaning.specs.Reference.Answers.{listBelow}
+use Rattle.meaning.specs.Reference.Truth.{upTo}
 use Rattle.meaning.specs.View.{View, wholeWords}
 use Rattle.meaning.proofs.Basic.Entries.{join-length}
 use Rattle.meaning.proofs.File.Nodes.{formula-at}
+use Rattle.meaning.proofs.Meaning.Full.{length-upTo}
 use Rattle.instrument.specs.declared.Node as stored
 use Rattle.instrument.specs.Layout.{nodeOf}
 use Rattle.marks.specs.declared.Mark.{Mark}
 use Rattle.marks.specs.Component.{stepTable}
 use Rattle.marks.specs.Formulas.{formulaMark}
-use Rattle.marks.specs.NodeMarks.{noMark, signalMark, kindMark, Operands, Listing, pairAt, rowWords}
+use Rattle.marks.specs.NodeMarks.{noMark, signalMark, kindMark, Operands, Listing, Marking, listMarks, pairAt, rowWords}
 use Rattle.marks.specs.Rules.{InRange, exMark, egMark, euMark}
 use Rattle.marks.specs.Written.{Written}
 use Rattle.marks.proofs.Formulas.{formula-range, formula-true, formula-or, formula-ex, formula-eg, formula-eu}
 use Rattle.marks.proofs.Tables.{ex-steps, eg-steps, eu-steps}
-use Rattle.marks.proofs.Written.{singles-below, singles-past}
+use Rattle.marks.proofs.Written.{written-start, written-end, join-list, singles-more, singles-below, singles-past}
 
 -- no known kind; and one number more that the kind is not
 pub kind-unknown : (states inputs : ℕ) (outputs outs succ : List ℕ) (kind w : ℕ) (a b : Mark) → 7 ≤ kind
@@ -44,6 +48,10 @@ operands-small (or i j) k h e = record { left = λ p. omega (arith, e i of-or-l)
 operands-small (ex i) k h e = record { left = λ p. omega (arith, e i of-ex); or-right = λ p. absurd (omega (arith, p)); eu-right = λ p. absurd (omega (arith, p)) }
 operands-small (eg i) k h e = record { left = λ p. omega (arith, e i of-eg); or-right = λ p. absurd (omega (arith, p)); eu-right = λ p. absurd (omega (arith, p)) }
 operands-small (eu i j) k h e = record { left = λ p. omega (arith, e i of-eu-l); or-right = λ p. absurd (omega (arith, p)); eu-right = λ p. omega (arith, e j of-eu-r) }
+
+pub operands-listed : (nodes : List stored.Node) (count : ℕ) (ns : List (Node ℕ)) → Listing nodes count ns → (k : ℕ) → k < count
+    → Operands (getD nodes k (nodeOf top))
+operands-listed nodes count ns l k h = rw (l .at k) (operands-small (nodeAt ns k) k (omega (arith, l .long, l .room)) (l .earlier k))
 
 module _ (n : ℕ) (ins outputs outs succ : List ℕ) where
   abbrev t : Table
@@ -74,7 +82,7 @@ module _ (n : ℕ) (ins outputs outs succ : List ℕ) where
     abbrev markAt : ℕ → Mark
     markAt k = of (formulaAt ns k)
 
-    pub node-formula : (k : ℕ) (m : List Mark) → k < count → Written (replicate 24 noMark) 0 count (λ k. markAt k ∷ []) k m
+    node-formula : (k : ℕ) (m : List Mark) → k < count → Written (replicate 24 noMark) 0 count (λ k. markAt k ∷ []) k m
         → let node = getD nodes k (nodeOf top) in
         kindMark n (length ins) outputs outs succ (node .kind) (node .left) (getD m (node .left) noMark) (getD m (node .right) noMark) ≡ markAt k
     node-formula k m h w =
@@ -83,7 +91,7 @@ module _ (n : ℕ) (ins outputs outs succ : List ℕ) where
         (λ i o. singles-below markAt noMark 24 count k m (omega (arith, l .long, l .room)) w i (l .earlier k i o)))
 
     -- marks stored so far are of the component's states
-    pub stored-range : (k : ℕ) (m : List Mark) → k ≤ count → Written (replicate 24 noMark) 0 count (λ k. markAt k ∷ []) k m
+    stored-range : (k : ℕ) (m : List Mark) → k ≤ count → Written (replicate 24 noMark) 0 count (λ k. markAt k ∷ []) k m
         → (j : ℕ) → InRange n (getD m j noMark)
     stored-range k m h w j =
         elim (decLt j k) [
@@ -94,9 +102,43 @@ module _ (n : ℕ) (ins outputs outs succ : List ℕ) where
         room : k ≤ 24
         room = omega (arith, l .long, l .room)
 
-pub operands-listed : (nodes : List stored.Node) (count : ℕ) (ns : List (Node ℕ)) → Listing nodes count ns → (k : ℕ) → k < count
-    → Operands (getD nodes k (nodeOf top))
-operands-listed nodes count ns l k h = rw (l .at k) (operands-small (nodeAt ns k) k (omega (arith, l .long, l .room)) (l .earlier k))
+-- the loop over the nodes
+module _ (states inputs : ℕ) (outputs outs succ : List ℕ) (nodes : List stored.Node) (count : ℕ) where
+  abbrev Marked : ℕ → List Mark → Type 0
+  Marked k m = Marking states inputs outputs outs succ nodes count k m
+
+  pub marking-start : Marked 0 (replicate 24 noMark)
+  marking-start = record { reached = omega arith; each = λ ins e ns l. written-start (replicate 24 noMark) 0 count _ }
+
+  pub marking-more : (k : ℕ) (m : List Mark) (v : Mark) → k < count
+      → (let node = getD nodes k (nodeOf top) in
+      v ≡ kindMark states inputs outputs outs succ (node .kind) (node .left) (getD m (node .left) noMark) (getD m (node .right) noMark))
+      → Marked k m → Marked (k + 1) (set m k v)
+  marking-more k m v h e s =
+      record {
+        reached = omega arith;
+        each =
+            λ ins q ns l.
+            singles-more (λ k. formulaMark (fromWords states ins outputs outs succ) (wholeWords (fromWords states ins outputs outs succ)) (formulaAt ns k))
+            (replicate 24 noMark) count k m v h
+            (rw (← q) at e ∙ node-formula states ins outputs outs succ nodes count ns l k m h (s .each ins q ns l)) (s .each ins q ns l);
+      }
+
+  pub marking-end : (k : ℕ) (m : List Mark) → count ≡ k → Marked k m → (ins : List ℕ) → length ins ≡ inputs → (ns : List (Node ℕ))
+      → Listing nodes count ns → m ≡ listMarks (fromWords states ins outputs outs succ) ns
+  unfolding listMarks
+  marking-end k m e s ins q ns l =
+      let t = fromWords states ins outputs outs succ in
+      let g : ℕ → Mark = λ k. formulaMark t (wholeWords t) (formulaAt ns k) in
+      written-end (replicate 24 noMark) 0 count (λ k. g k ∷ []) k m e (s .each ins q ns l)
+      ∙ ap (λ vs. sets (replicate 24 noMark) 0 vs) (join-list g count ∙ ap (λ n. listBelow n g) (l .long))
+
+  -- the marks so far are of the component's states
+  pub marking-range : (ns : List (Node ℕ)) → Listing nodes count ns → (k : ℕ) (m : List Mark) → Marked k m
+      → (j : ℕ) → InRange states (getD m j noMark)
+  marking-range ns l k m s j =
+      stored-range states (upTo inputs) outputs outs succ nodes count ns l k m (s .reached)
+      (s .each (upTo inputs) (length-upTo inputs) ns l) j
 
 -- two words for each mark
 pub pairs-length : (row : List Mark) (k : ℕ) → length (rowWords row k) ≡ 2 * k

@@ -14,21 +14,19 @@ use Rattle.marks.specs.Written.{Written}
 
 module _ {X : Type 0} (l₀ : List X) (at n : ℕ) (f : ℕ → List X) where
   pub written-start : Written l₀ at n f 0 l₀
-  written-start = record { reached = omega arith; same = refl }
+  written-start = record { reached = omega arith; long = refl; same = refl }
 
   pub written-more : (k place : ℕ) (l l′ : List X) → k < n → place ≡ at + length (joinBelow k f) → l′ ≡ sets l place (f k)
       → Written l₀ at n f k l → Written l₀ at n f (k + 1) l′
   written-more k place l l′ h e s w =
       record {
         reached = omega arith;
+        long = ap length s ∙ length-sets l place (f k) ∙ w .long;
         same = s ∙ rw (w .same, e, add-one k) (sym (sets-append (joinBelow k f) (f k) l₀ at));
       }
 
   pub written-end : (k : ℕ) (l : List X) → n ≡ k → Written l₀ at n f k l → l ≡ sets l₀ at (joinBelow n f)
   written-end k l e w = rw e (w .same)
-
-  pub written-length : {k : ℕ} {l : List X} → Written l₀ at n f k l → length l ≡ length l₀
-  written-length {k} w = ap length (w .same) ∙ length-sets l₀ at (joinBelow k f)
 
 -- parts of one member each
 module _ {X : Type 0} (g : ℕ → X) where

@@ -21,6 +21,7 @@ use Rattle.instrument.specs.Described.{Describes}
 use Rattle.marks.specs.declared.Mark.{Mark}
 use Rattle.marks.specs.Component.{stepTable}
 use Rattle.marks.specs.Formulas.{formulaMark}
+use Rattle.marks.specs.Written.{Written}
 use Rattle.marks.specs.Rules.{trueMark, foreignMark, notMark, orMark, exMark, egMark, euMark}
 
 -- no state is marked
@@ -59,11 +60,25 @@ pub record Listing (nodes : List Node) (count : ℕ) (ns : List (formula.Node �
 unfoldable pub listMarks : Table → List (formula.Node ℕ) → List Mark
 listMarks t ns = sets (replicate (limits .nodes) noMark) 0 (listBelow (length ns) (λ k. formulaMark t (wholeWords t) (formulaAt ns k)))
 
+-- how far a loop over the nodes is: the first k are marked, whichever formula the array lists, on whichever component with that many inputs
+pub record Marking (states inputs : ℕ) (outputs outs succ : List ℕ) (nodes : List Node) (count k : ℕ) (m : List Mark) : Type 0 where
+  pub reached : k ≤ count
+  pub each : (ins : List ℕ) → length ins ≡ inputs → (ns : List (formula.Node ℕ)) → Listing nodes count ns
+      → let t = fromWords states ins outputs outs succ in
+      Written (replicate (limits .nodes) noMark) 0 count (λ k. formulaMark t (wholeWords t) (formulaAt ns k) ∷ []) k m
+
 -- the marks of all components, no mark past the last one
 unfoldable pub marksOf : meaning.Instrument → List (List Mark)
 marksOf I =
     sets (replicate (limits .components) (replicate (limits .nodes) noMark)) 0
     (listBelow (components I) (λ i. listMarks (table I i) (I .nodes)))
+
+-- how far a loop over the components is: the first i are marked, whichever contents the instrument describes
+pub record MarkingAll (t : Instrument) (i : ℕ) (m : List (List Mark)) : Type 0 where
+  pub reached : i ≤ t .components
+  pub each : (k : Contents) → Describes t k
+      → Written (replicate (limits .components) (replicate (limits .nodes) noMark)) 0 (t .components)
+      (λ i. listMarks (table (instrumentOf k) i) (k .nodes) ∷ []) i m
 
 -- a mark as words, PASS then FAIL, and so many marks
 abbrev pub pairAt : List Mark → ℕ → List ℕ

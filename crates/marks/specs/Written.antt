@@ -9,6 +9,7 @@ use Rattle.meaning.specs.Reference.Answers.{joinBelow}
 -- of n parts f 0, f 1, .. the first k are stored in the list l₀ from a place on, one after the other
 pub record Written {X : Type 0} (l₀ : List X) (at n : ℕ) (f : ℕ → List X) (k : ℕ) (l : List X) : Type 0 where
   pub reached : k ≤ n
+  pub long : length l ≡ length l₀
   pub same : l ≡ sets l₀ at (joinBelow k f)
 
 -- w is none of the first j numbers of the list
