@@ -1,5 +1,5 @@
 -- The marks of all components: the loop over them, what stands in the array, and its words as document 01's result.
-use mathlib.Core.Path.{_≡_, sym, ap, ap₂, _∙_}
+use mathlib.Core.Path.{_≡_, sym, ap, _∙_}
 use mathlib.Core.List.{List, [], _∷_}
 use lib.ListN.{length, getD, set, replicate, length-replicate}
 use lib.Seq.{sets}
@@ -16,13 +16,12 @@ use Rattle.meaning.proofs.Basic.Entries.{list-length, list-at, join-length, joi
 use Rattle.instrument.specs.declared.Instrument.{Instrument}
 use Rattle.instrument.specs.Described.{Describes}
 use Rattle.instrument.proofs.Places.{nodecount-is}
-use Rattle.instrument.proofs.Bounds.{count-bounds, node-bounds}
+use Rattle.instrument.proofs.Bounds.{count-bounds}
 use Rattle.instrument.proofs.Rows.{sets-in, filled-at}
 use Rattle.instrument.proofs.Tables.{table-count}
 use Rattle.marks.specs.declared.Mark.{Mark}
 use Rattle.marks.specs.Formulas.{formulaMark}
 use Rattle.marks.specs.NodeMarks.{noMark, listMarks, marksOf, MarkingAll, rowWords, pairAt}
-use Rattle.marks.specs.Written.{Written}
 use Rattle.marks.proofs.NodeMarks.{pairs-length}
 use Rattle.marks.proofs.Written.{written-start, written-end, join-list, singles-more}
 

@@ -19,11 +19,11 @@ use Rattle.meaning.proofs.File.Nodes.{formula-at}
 use Rattle.meaning.proofs.Meaning.Full.{length-upTo}
 use Rattle.instrument.specs.declared.Node as stored
 use Rattle.instrument.specs.Layout.{nodeOf}
+use Rattle.instrument.proofs.Nodes.{left-operand, operand-by}
 use Rattle.marks.specs.declared.Mark.{Mark}
-use Rattle.marks.specs.Component.{stepTable}
 use Rattle.marks.specs.Formulas.{formulaMark}
-use Rattle.marks.specs.NodeMarks.{noMark, signalMark, kindMark, Operands, Listing, Marking, listMarks, pairAt, rowWords}
-use Rattle.marks.specs.Rules.{InRange, exMark, egMark, euMark}
+use Rattle.marks.specs.NodeMarks.{noMark, signalMark, kindMark, ruleMark, Operands, Listing, MarkedNodes, Marking, listMarks, pairAt, rowWords}
+use Rattle.marks.specs.Rules.{InRange}
 use Rattle.marks.specs.Written.{Written}
 use Rattle.marks.proofs.Formulas.{formula-range, formula-true, formula-or, formula-ex, formula-eg, formula-eu}
 use Rattle.marks.proofs.Tables.{ex-steps, eg-steps, eu-steps}
@@ -40,18 +40,21 @@ pub past : {i k : ℕ} → i ≤ k → (k ≡ i → ⊥) → suc i ≤ k
 past h n = omega arith
 
 -- operands that are earlier nodes are nodes
-operands-small : (m : Node ℕ) (k : ℕ) → k ≤ 24 → ((i : ℕ) → Operand i m → i < k) → Operands (nodeOf m)
-operands-small top k h e = record { left = λ p. absurd (omega arith); or-right = λ p. absurd (omega (arith, p)); eu-right = λ p. absurd (omega (arith, p)) }
-operands-small (atom w) k h e = record { left = λ p. absurd (omega arith); or-right = λ p. absurd (omega (arith, p)); eu-right = λ p. absurd (omega (arith, p)) }
-operands-small (neg i) k h e = record { left = λ p. omega (arith, e i of-neg); or-right = λ p. absurd (omega (arith, p)); eu-right = λ p. absurd (omega (arith, p)) }
-operands-small (or i j) k h e = record { left = λ p. omega (arith, e i of-or-l); or-right = λ p. omega (arith, e j of-or-r); eu-right = λ p. absurd (omega (arith, p)) }
-operands-small (ex i) k h e = record { left = λ p. omega (arith, e i of-ex); or-right = λ p. absurd (omega (arith, p)); eu-right = λ p. absurd (omega (arith, p)) }
-operands-small (eg i) k h e = record { left = λ p. omega (arith, e i of-eg); or-right = λ p. absurd (omega (arith, p)); eu-right = λ p. absurd (omega (arith, p)) }
-operands-small (eu i j) k h e = record { left = λ p. omega (arith, e i of-eu-l); or-right = λ p. absurd (omega (arith, p)); eu-right = λ p. omega (arith, e j of-eu-r) }
-
 pub operands-listed : (nodes : List stored.Node) (count : ℕ) (ns : List (Node ℕ)) → Listing nodes count ns → (k : ℕ) → k < count
     → Operands (getD nodes k (nodeOf top))
-operands-listed nodes count ns l k h = rw (l .at k) (operands-small (nodeAt ns k) k (omega (arith, l .long, l .room)) (l .earlier k))
+operands-listed nodes count ns l k h =
+    rw (l .at k)
+    (record {
+      left = λ p. small (nodeOf m .left) (left-operand m p);
+      or-right = λ e. small (nodeOf m .right) (operand-by m 3 e (nodeOf m .right) of-or-r);
+      eu-right = λ e. small (nodeOf m .right) (operand-by m 6 e (nodeOf m .right) of-eu-r);
+    })
+  where
+    m : Node ℕ
+    m = nodeAt ns k
+
+    small : (i : ℕ) → Operand i m → i < 24
+    small i o = omega (arith, l .earlier k i o, l .long, l .room)
 
 module _ (n : ℕ) (ins outputs outs succ : List ℕ) where
   abbrev t : Table
@@ -83,8 +86,7 @@ module _ (n : ℕ) (ins outputs outs succ : List ℕ) where
     markAt k = of (formulaAt ns k)
 
     node-formula : (k : ℕ) (m : List Mark) → k < count → Written (replicate 24 noMark) 0 count (λ k. markAt k ∷ []) k m
-        → let node = getD nodes k (nodeOf top) in
-        kindMark n (length ins) outputs outs succ (node .kind) (node .left) (getD m (node .left) noMark) (getD m (node .right) noMark) ≡ markAt k
+        → ruleMark n (length ins) outputs outs succ (getD nodes k (nodeOf top)) m ≡ markAt k
     node-formula k m h w =
         rw (l .at k, formula-at ns (l .earlier) k)
         (kind-formula (formulaAt ns) (λ i. getD m i noMark) (nodeAt ns k)
@@ -111,8 +113,7 @@ module _ (states inputs : ℕ) (outputs outs succ : List ℕ) (nodes : List stor
   marking-start = record { reached = omega arith; each = λ ins e ns l. written-start (replicate 24 noMark) 0 count _ }
 
   pub marking-more : (k : ℕ) (m : List Mark) (v : Mark) → k < count
-      → (let node = getD nodes k (nodeOf top) in
-      v ≡ kindMark states inputs outputs outs succ (node .kind) (node .left) (getD m (node .left) noMark) (getD m (node .right) noMark))
+      → v ≡ ruleMark states inputs outputs outs succ (getD nodes k (nodeOf top)) m
       → Marked k m → Marked (k + 1) (set m k v)
   marking-more k m v h e s =
       record {
@@ -124,8 +125,7 @@ module _ (states inputs : ℕ) (outputs outs succ : List ℕ) (nodes : List stor
             (rw (← q) at e ∙ node-formula states ins outputs outs succ nodes count ns l k m h (s .each ins q ns l)) (s .each ins q ns l);
       }
 
-  pub marking-end : (k : ℕ) (m : List Mark) → count ≡ k → Marked k m → (ins : List ℕ) → length ins ≡ inputs → (ns : List (Node ℕ))
-      → Listing nodes count ns → m ≡ listMarks (fromWords states ins outputs outs succ) ns
+  pub marking-end : (k : ℕ) (m : List Mark) → count ≡ k → Marked k m → MarkedNodes states inputs outputs outs succ nodes count m
   unfolding listMarks
   marking-end k m e s ins q ns l =
       let t = fromWords states ins outputs outs succ in

@@ -1,22 +1,20 @@
 -- The parts of an instrument's arrays that are a component's lists, and the formula that its nodes list.
-use mathlib.Core.Path.{_≡_, sym, ap, _∙_}
+use mathlib.Core.Path.{_≡_, sym, _∙_}
 use lib.ListN.{length, getD, take, drop}
 use native.Mathlib.Nat.{mul-comm}
 use native.Mathlib.Omega.{arith}
-use Prim.Native.Nat.{ℕ, _+_, _*_, _^_, _≤_, _<_}
+use Prim.Native.Nat.{ℕ, _*_, _^_, _<_}
 use Rattle.meaning.specs.Instrument.{table}
 use Rattle.meaning.specs.File.Grammar.{Contents, instrumentOf, limits}
 use Rattle.meaning.specs.File.Promise.{PromisedComponent, componentAt}
-use Rattle.meaning.specs.Table.{Table, fromWords}
+use Rattle.meaning.specs.Table.{fromWords}
 use Rattle.meaning.proofs.File.Accepted.{table-is, promised-at, word-at}
 use Rattle.instrument.specs.declared.Instrument.{Instrument}
 use Rattle.instrument.specs.Described.{Describes}
 use Rattle.instrument.proofs.Places.{components-is, nodecount-is, states-at, inputcounts-at, outputcounts-at, nodes-at}
 use Rattle.instrument.proofs.Places.{outputs-part, outs-part, nexts-part}
-use Rattle.instrument.proofs.Bounds.{states-bounds, inputs-bound}
 use Rattle.marks.specs.Component.{Lists}
-use Rattle.marks.specs.NodeMarks.{Listing, listMarks}
-use Rattle.marks.specs.declared.Mark.{Mark}
+use Rattle.marks.specs.NodeMarks.{Listing}
 
 module _ (t : Instrument) (k : Contents) (d : Describes t k) where
   pub listing : Listing (t .nodes) (t .nodecount) (k .nodes)

@@ -13,7 +13,7 @@ use Rattle.meaning.specs.Instrument as meaning
 use Rattle.meaning.specs.Instrument.{components, table}
 use Rattle.meaning.specs.File.Grammar.{Contents, instrumentOf, limits}
 use Rattle.meaning.specs.View.{wholeWords}
-use Rattle.meaning.specs.Reference.Answers.{listBelow, joinBelow, passWord, failWord}
+use Rattle.meaning.specs.Reference.Answers.{listBelow, joinBelow}
 use Rattle.instrument.specs.declared.Node.{Node}
 use Rattle.instrument.specs.declared.Instrument.{Instrument}
 use Rattle.instrument.specs.Layout.{nodeOf}
@@ -22,7 +22,7 @@ use Rattle.marks.specs.declared.Mark.{Mark}
 use Rattle.marks.specs.Component.{stepTable}
 use Rattle.marks.specs.Formulas.{formulaMark}
 use Rattle.marks.specs.Written.{Written}
-use Rattle.marks.specs.Rules.{trueMark, foreignMark, notMark, orMark, exMark, egMark, euMark}
+use Rattle.marks.specs.Rules.{trueMark, notMark, orMark, exMark, egMark, euMark}
 
 -- no state is marked
 abbrev pub noMark : Mark
@@ -43,6 +43,11 @@ kindMark states inputs outputs outs succ (suc (suc (suc (suc (suc zero))))) w a 
 kindMark states inputs outputs outs succ (suc (suc (suc (suc (suc (suc zero)))))) w a b = euMark (stepTable states inputs succ) a b
 kindMark states inputs outputs outs succ (suc (suc (suc (suc (suc (suc (suc unknown))))))) w a b = noMark
 
+-- the marks of a node, from the marks of all nodes so far
+abbrev pub ruleMark : ℕ → ℕ → List ℕ → List ℕ → List ℕ → Node → List Mark → Mark
+ruleMark states inputs outputs outs succ node marks =
+    kindMark states inputs outputs outs succ (node .kind) (node .left) (getD marks (node .left) noMark) (getD marks (node .right) noMark)
+
 -- the node's operands, as far as it has any, are nodes
 pub record Operands (node : Node) : Type 0 where
   pub left : 2 ≤ node .kind → node .left < limits .nodes
@@ -60,7 +65,13 @@ pub record Listing (nodes : List Node) (count : ℕ) (ns : List (formula.Node �
 unfoldable pub listMarks : Table → List (formula.Node ℕ) → List Mark
 listMarks t ns = sets (replicate (limits .nodes) noMark) 0 (listBelow (length ns) (λ k. formulaMark t (wholeWords t) (formulaAt ns k)))
 
--- how far a loop over the nodes is: the first k are marked, whichever formula the array lists, on whichever component with that many inputs
+-- the marks of a component for all nodes, whichever formula the array lists; inputs are counted, and may be any that many
+abbrev pub MarkedNodes : ℕ → ℕ → List ℕ → List ℕ → List ℕ → List Node → ℕ → List Mark → Type 0
+MarkedNodes states inputs outputs outs succ nodes count m =
+    (ins : List ℕ) → length ins ≡ inputs → (ns : List (formula.Node ℕ)) → Listing nodes count ns
+    → m ≡ listMarks (fromWords states ins outputs outs succ) ns
+
+-- how far a loop over the nodes is: the first k are marked
 pub record Marking (states inputs : ℕ) (outputs outs succ : List ℕ) (nodes : List Node) (count k : ℕ) (m : List Mark) : Type 0 where
   pub reached : k ≤ count
   pub each : (ins : List ℕ) → length ins ≡ inputs → (ns : List (formula.Node ℕ)) → Listing nodes count ns
@@ -73,7 +84,7 @@ marksOf I =
     sets (replicate (limits .components) (replicate (limits .nodes) noMark)) 0
     (listBelow (components I) (λ i. listMarks (table I i) (I .nodes)))
 
--- how far a loop over the components is: the first i are marked, whichever contents the instrument describes
+-- how far a loop over the components is: the first i are marked
 pub record MarkingAll (t : Instrument) (i : ℕ) (m : List (List Mark)) : Type 0 where
   pub reached : i ≤ t .components
   pub each : (k : Contents) → Describes t k
