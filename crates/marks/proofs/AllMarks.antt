@@ -1,9 +1,9 @@
 -- The marks of all components: the loop over them, what stands in the array, and its words as document 01's result.
-use mathlib.Core.Path.{_≡_, sym, ap, _∙_}
+use mathlib.Core.Path.{_≡_, refl, sym, ap, _∙_}
 use mathlib.Core.List.{List, [], _∷_}
 use lib.ListN.{length, getD, set, replicate, length-replicate}
 use lib.Seq.{sets}
-use native.Mathlib.Nat.{zero-add, mul-suc, mul-le-mul-left}
+use native.Mathlib.Nat.{zero-add, mul-suc, mul-right-comm, mul-le-mul-left}
 use native.Mathlib.Omega.{arith}
 use Prim.Native.Nat.{ℕ, suc, _+_, _*_, _≤_, _<_}
 use Rattle.meaning.specs.Instrument as meaning
@@ -93,19 +93,20 @@ row-fits width n i h =
     let m : width * suc i ≤ width * n = mul-le-mul-left width h in
     omega (arith, mul-suc width i)
 
-pub rows-written : (t : Instrument) (m : List (List Mark)) → ((k : Contents) → Describes t k → m ≡ marksOf (instrumentOf k))
-    → (old : List ℕ) → 2 * t .nodecount * t .components ≤ length old → (k : Contents) → Describes t k
-    → sets old 0 (joinBelow (t .components) (λ i. rowWords (getD m i []) (t .nodecount)))
-    ≡ lentAfter (entries (markWords (instrumentOf k))) old
-rows-written t m all old h k d =
-    lent-sets (joinBelow (t .components) (λ i. rowWords (getD m i []) (t .nodecount))) old
-    (omega (arith, rows-length m (t .nodecount) (t .components)))
-    ∙ ap (λ vs. lentAfter (entries vs) old) same
-  where
-    I : meaning.Instrument
-    I = instrumentOf k
+module _ (t : Instrument) (k : Contents) (d : Describes t k) where
+  abbrev I : meaning.Instrument
+  I = instrumentOf k
 
-    same : joinBelow (t .components) (λ i. rowWords (getD m i []) (t .nodecount)) ≡ markWords I
-    same =
-        rw (← table-count t k d, nodecount-is t k d, all k d)
-        (words-are I (omega (arith, table-count t k d, count-bounds t k d .1)) (d .promised .nodeCount .1))
+  words-same : (m : List (List Mark)) → m ≡ marksOf I → joinBelow (t .components) (λ i. rowWords (getD m i []) (t .nodecount)) ≡ markWords I
+  words-same m e =
+      rw (← table-count t k d, nodecount-is t k d, e)
+      (words-are I (omega (arith, table-count t k d, count-bounds t k d .1)) (d .promised .nodeCount .1))
+
+  pub words-length : length (markWords I) ≡ 2 * t .components * t .nodecount
+  words-length =
+      ap length (sym (words-same (marksOf I) refl)) ∙ rows-length (marksOf I) (t .nodecount) (t .components)
+      ∙ mul-right-comm 2 (t .nodecount) (t .components)
+
+  pub rows-written : (m : List (List Mark)) → m ≡ marksOf I → (old : List ℕ) → 2 * t .components * t .nodecount ≤ length old
+      → sets old 0 (joinBelow (t .components) (λ i. rowWords (getD m i []) (t .nodecount))) ≡ lentAfter (entries (markWords I)) old
+  rows-written m e old h = rw (words-same m e) (lent-sets (markWords I) old (omega (arith, words-length)))
