@@ -1,19 +1,26 @@
 -- The rules for signals give the marks of an atom: foreign where the component does not list it as an output, own at its place in the list.
 use mathlib.Core.Path.{_≡_, sym, subst, ap, _∙_}
 use mathlib.Core.Bool.{Bool, false, not, _&&_}
-use mathlib.Core.List.{List}
+use mathlib.Core.List.{List, []}
 use lib.Dec.{T, eqb, eqb→eq, eqb-refl}
 use lib.ListN.{length, getD}
-use Prim.Native.Nat.{ℕ, _<_}
+use Prim.Native.Nat.{ℕ, _+_, _<_}
+use native.Mathlib.Decide.{decLt}
+use native.Mathlib.Omega.{arith}
+use borrow.Author.Count.{below-none, below-more}
 use Rattle.words.specs.Sets.{has, built}
 use Rattle.words.proofs.Built.{built-same, built-empty}
+use Rattle.meaning.specs.Tests.{listed}
 use Rattle.meaning.specs.Table.{Table, fromWords, owns, drives}
 use Rattle.meaning.specs.Formula.{atom}
 use Rattle.meaning.specs.View.{signals}
 use Rattle.meaning.proofs.Basic.Booleans.{and-in, and-l, and-r, test-eq}
 use Rattle.meaning.proofs.Basic.Bounded.{any-in, any-out}
-use Rattle.meaning.proofs.Basic.Lists.{at-listed}
+use Rattle.meaning.proofs.Basic.Lists.{at-listed, listed-at}
+use Rattle.marks.specs.Component.{Ascending}
 use Rattle.marks.specs.Formulas.{formulaMark}
+use Rattle.marks.specs.NodeMarks.{signalMark}
+use Rattle.marks.specs.Written.{Unlisted}
 use Rattle.marks.specs.Rules.{foreignMark, ownMark, ownPass, ownFail}
 use Rattle.marks.proofs.Rules.{mark-is}
 
@@ -61,3 +68,31 @@ module _
         (built-same n (λ x. has (getD outs x 0) j) (λ x. owns t w && drives t x w) (λ x k. sym (own-owns (drives t x w) ∙ own-drives x)))
         (built-same n (λ x. not (has (getD outs x 0) j)) (λ x. owns t w && not (drives t x w))
         (λ x k. sym (own-owns (not (drives t x w)) ∙ ap not (own-drives x))))
+
+-- by the signal's number: own at the place where an ascending list has it, foreign if it has it nowhere
+once : (vs : List ℕ) → Ascending vs → (j : ℕ) → j < length vs → (i : ℕ) → i < length vs → getD vs i 0 ≡ getD vs j 0 → i ≡ j
+once vs a j l i k e =
+    elim (decLt i j) [
+      | yes h ↦ absurd (omega (arith, a .each i j h l))
+      | no h ↦ elim (decLt j i) [ yes m ↦ absurd (omega (arith, a .each j i m k)) | no m ↦ omega arith ]
+    ]
+
+module _ (n : ℕ) (outputs outs : List ℕ) (w : ℕ) where
+  pub signal-own : Ascending outputs → (j : ℕ) → j < length outputs → getD outputs j 0 ≡ w → ownMark n outs j ≡ signalMark n outputs outs w
+  unfolding signalMark
+  signal-own a j l e = rw (← e) (formula-own n [] outputs outs [] j l (once outputs a j l) (λ x. getD outs x 0))
+
+  pub signal-foreign : (j : ℕ) → length outputs ≡ j → Unlisted outputs w j → foreignMark ≡ signalMark n outputs outs w
+  unfolding signalMark
+  signal-foreign j e u =
+      formula-foreign (fromWords n [] outputs outs []) (λ x. getD outs x 0) w
+      (test-eq (listed outputs w) false
+      (λ h. let (i, l, q) = listed-at outputs w h in u .none i (omega arith) q) (λ h. absurd h))
+
+-- a search through the list
+module _ (vs : List ℕ) (w : ℕ) where
+  pub unlisted-start : Unlisted vs w 0
+  unlisted-start = record { reached = omega arith; none = below-none (λ i. getD vs i 0 ≡ w → ⊥) }
+
+  pub unlisted-more : (j : ℕ) → j < length vs → (getD vs j 0 ≡ w → ⊥) → Unlisted vs w j → Unlisted vs w (j + 1)
+  unlisted-more j l h u = record { reached = omega arith; none = below-more (λ i. getD vs i 0 ≡ w → ⊥) j (u .none) h }

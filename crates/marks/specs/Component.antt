@@ -23,3 +23,14 @@ pub record Steps (states inputs : ℕ) (succ : List ℕ) : Type 0 where
   pub room : 2 ^ inputs * states ≤ length succ
   pub filled : (x a : ℕ) → x < states → a < 2 ^ inputs → wordAt inputs succ x a ≢ 0
   pub narrow : (x a : ℕ) → x < states → a < 2 ^ inputs → wordAt inputs succ x a < 2 ^ states
+
+-- a list of signals in strictly ascending order
+pub record Ascending (vs : List ℕ) : Type 0 where
+  pub each : (i j : ℕ) → i < j → j < length vs → getD vs i 0 < getD vs j 0
+
+-- the lists of a component within document 01's limits: its outputs in ascending order, an output word for each state, and its steps
+pub record Lists (states inputs : ℕ) (outputs outs succ : List ℕ) : Type 0 where
+  pub steps : Steps states inputs succ
+  pub outputCount : length outputs ≤ 8
+  pub ascending : Ascending outputs
+  pub outCount : states ≤ length outs

@@ -2,3 +2,5 @@ pub mod Component
 pub mod Rules
 pub mod Formulas
 pub mod Sweeps
+pub mod Written
+pub mod NodeMarks

@@ -3,19 +3,16 @@ use mathlib.Core.Path.{_∙_, _≡_, ap, refl, sym}
 use mathlib.Core.List.{List, [], _++_, _∷_, append-assoc, append-nil}
 use lib.ListN.{length, length-append, set}
 use lib.Seq.{sets}
-use native.Mathlib.Nat.{add-zero}
 use native.Mathlib.Omega.{arith}
 use Prim.Native.Nat.{_+_, _-_, _<_, suc, zero, ℕ}
 use Rattle.meaning.specs.File.Parser.{Got, Parser, fault, found, listOf, on}
+use Rattle.meaning.proofs.Basic.Entries.{sets-append}
 use Rattle.meaning.proofs.File.Lists.{list-items, list-more, list-none}
 
--- stores one after the other
+-- one store more
 pub sets-more : {A : Type 0} (l : List A) (base : ℕ) (vs : List A) (v : A)
     → set (sets l base vs) (base + length vs) v ≡ sets l base (vs ++ (v ∷ []))
-sets-more l base [] v = ap (λ (k : ℕ). set l k v) (add-zero base)
-sets-more l base (a ∷ vs) v =
-    let e : base + suc (length vs) ≡ suc base + length vs = omega arith in
-    ap (λ (k : ℕ). set (sets (set l base a) (suc base) vs) k v) e ∙ sets-more (set l base a) (suc base) vs v
+sets-more l base vs v = sym (sets-append vs (v ∷ []) l base)
 
 -- what was read in all, if these items were read before
 abbrev after : {A : Type 0} → List A → Got (List A) → Got (List A)

@@ -1,0 +1,77 @@
+-- The parts of an instrument's arrays that are a component's lists, and the formula that its nodes list.
+use mathlib.Core.Path.{_≡_, sym, _∙_}
+use lib.ListN.{length, getD, take, drop}
+use native.Mathlib.Nat.{mul-comm}
+use native.Mathlib.Omega.{arith}
+use Prim.Native.Nat.{ℕ, _*_, _^_, _<_}
+use Rattle.meaning.specs.Instrument.{table}
+use Rattle.meaning.specs.File.Grammar.{Contents, instrumentOf, limits}
+use Rattle.meaning.specs.File.Promise.{PromisedComponent, componentAt}
+use Rattle.meaning.specs.Table.{fromWords}
+use Rattle.meaning.proofs.File.Accepted.{table-is, promised-at, word-at}
+use Rattle.instrument.specs.declared.Instrument.{Instrument}
+use Rattle.instrument.specs.Described.{Describes}
+use Rattle.instrument.proofs.Places.{components-is, nodecount-is, states-at, inputcounts-at, outputcounts-at, nodes-at}
+use Rattle.instrument.proofs.Places.{outputs-part, outs-part, nexts-part}
+use Rattle.marks.specs.Component.{Lists}
+use Rattle.marks.specs.NodeMarks.{Listing}
+
+module _ (t : Instrument) (k : Contents) (d : Describes t k) where
+  pub listing : Listing (t .nodes) (t .nodecount) (k .nodes)
+  listing =
+      record {
+        at = nodes-at t k d;
+        long = nodecount-is t k d;
+        room = d .promised .nodeCount .1;
+        earlier = d .promised .earlier;
+      }
+
+  module _ (i : ℕ) (l : i < t .components) where
+    promised : PromisedComponent limits (k .signals) (componentAt k i)
+    promised = promised-at limits k (d .promised) i (omega (arith, components-is t k d))
+
+    lists-promised : Lists (getD (t .states) i 0) (getD (t .inputcounts) i 0) (componentAt k i .outputs) (componentAt k i .outs)
+        (componentAt k i .nexts)
+    lists-promised =
+        rw (states-at t k d i, inputcounts-at t k d i)
+        (record {
+          steps =
+              record {
+                some = promised .states .0;
+                most-states = promised .states .1;
+                most-inputs = promised .inputCount;
+                room = omega (arith, promised .nextCount, mul-comm (componentAt k i .states) (2 ^ length (componentAt k i .inputs)));
+                filled = λ x a h m. word-at limits k (d .promised) (componentAt k i) promised x a h m .1;
+                narrow = λ x a h m. word-at limits k (d .promised) (componentAt k i) promised x a h m .0;
+              };
+          outputCount = promised .outputCount;
+          ascending = record { each = promised .outputs .ascending };
+          outCount = omega (arith, promised .outCount);
+        })
+
+    -- the parts, as the code cuts them out
+    module _
+        (outputs outs nexts : ℕ)
+        (p : outputs ≡ getD (t .outputcounts) i 0)
+        (q : outs ≡ getD (t .states) i 0)
+        (r : nexts ≡ getD (t .states) i 0 * 2 ^ getD (t .inputcounts) i 0)
+      where
+        outputs-are : take outputs (drop (8 * i) (t .outputs)) ≡ componentAt k i .outputs
+        outputs-are = outputs-part t k d i outputs (omega (arith, components-is t k d)) (p ∙ outputcounts-at t k d i)
+
+        outs-are : take outs (drop (32 * i) (t .outs)) ≡ componentAt k i .outs
+        outs-are = outs-part t k d i outs (omega (arith, components-is t k d)) (q ∙ states-at t k d i ∙ sym (promised .outCount))
+
+        nexts-are : take nexts (drop (512 * i) (t .nexts)) ≡ componentAt k i .nexts
+        nexts-are =
+            nexts-part t k d i nexts (omega (arith, components-is t k d))
+            (r ∙ (rw (states-at t k d i, inputcounts-at t k d i) (sym (promised .nextCount))))
+
+        pub parts-lists : Lists (getD (t .states) i 0) (getD (t .inputcounts) i 0) (take outputs (drop (8 * i) (t .outputs)))
+            (take outs (drop (32 * i) (t .outs))) (take nexts (drop (512 * i) (t .nexts)))
+        parts-lists = rw (outputs-are, outs-are, nexts-are) lists-promised
+
+        pub parts-table : fromWords (getD (t .states) i 0) (componentAt k i .inputs) (take outputs (drop (8 * i) (t .outputs)))
+            (take outs (drop (32 * i) (t .outs))) (take nexts (drop (512 * i) (t .nexts)))
+            ≡ table (instrumentOf k) i
+        parts-table = rw (outputs-are, outs-are, nexts-are, states-at t k d i) (sym (table-is k i))
