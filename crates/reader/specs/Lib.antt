@@ -1,0 +1,4 @@
+pub mod Outcomes
+pub mod Stages
+pub mod Steps
+pub mod Formulas
