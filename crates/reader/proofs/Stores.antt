@@ -24,6 +24,10 @@ pub stored-end : {A : Type 0} (g : Got A) (list : A → List ℕ) (b : A) (end b
     → m ≡ sets l base (list b) → Stored g list base l m
 stored-end g list b end base l m p h = record { all = λ a at q. (let z : b ≡ a = cc in h ∙ ap (λ a. sets l base (list a)) z) }
 
+pub stored-same : {A : Type 0} (g h : Got A) (list : A → List ℕ) (base : ℕ) (l m : List ℕ) → g ≡ h → Stored g list base l m
+    → Stored h list base l m
+stored-same g h list base l m e x = record { all = λ a at q. x .all a at (e ∙ q) }
+
 -- the set of the signals read so far
 pub with-none : (set : ℕ) → set ≡ withAll set []
 unfolding withAll

@@ -52,12 +52,28 @@ times (suc n) stage k = do
 abbrev pub opened : ℕ → Contents
 opened W = record { signals = W; components = []; nodes = []; starts = [] }
 
+-- the file's first two numbers
+pub record TwoCounts : Type 0 where
+  pub components : ℕ
+  pub signals : ℕ
+
+abbrev pub twoCounts : Parser TwoCounts
+twoCounts = do
+  n ← between limits 1 (limits .components) 3
+  W ← between limits 0 (limits .signals) 3
+  give (record { components = n; signals = W })
+
+-- the first so many components of a file
+abbrev pub readFirst : ℕ → Parser Contents
+readFirst count = do
+  both ← twoCounts
+  times count addComponent (opened (both .signals))
+
 -- the parts of a file
 abbrev pub readTables : Parser Contents
 readTables = do
-  n ← between limits 1 (limits .components) 3
-  W ← between limits 0 (limits .signals) 3
-  times n addComponent (opened W)
+  both ← twoCounts
+  times (both .components) addComponent (opened (both .signals))
 
 abbrev pub readNodes : Stage
 readNodes k = do

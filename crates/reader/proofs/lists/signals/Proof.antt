@@ -24,7 +24,7 @@ abbrev Inv-loop : tie.InvT-loop
 Inv-loop file count w taken known out₀ base place₀ low₀ set₀ i₀ out place low set i =
     (i ≤ count) × (length out ≡ length out₀)
     × Progress (signal limits w taken) (λ low v. v + 1) file count 0 (place₀ .at)
-        (λ (l : List ℕ). (out ≡ sets out₀ base l) × (set ≡ withAll set₀ l)) i low (place .at)
+    (λ (l : List ℕ). (out ≡ sets out₀ base l) × (set ≡ withAll set₀ l)) i low (place .at)
 
 abbrev μ-loop : tie.MeasureT-loop
 μ-loop file count w taken known out₀ base place₀ low₀ set₀ i₀ out place low set i = count - i
@@ -82,13 +82,12 @@ loop-less : tie.Need-loop-less Inv-loop μ-loop
 loop-less c = omega arith
 
 loop-again : tie.Need-loop-again Inv-loop μ-loop
-loop-again c =
-    (
-      omega arith,
-      length-set (c .before .before .before .before .before .before .loop .out) _ _ ∙ c .before .before .before .before .before .before .loop .inv .1,
-      more _ _ _ _ _ _ _ _ _ _ (c .before .before .before .before .before .before .loop .inv .2) _ (c .before .before .before .before .before .loop-test .taken) _ _ (is (c .before .before))
-          (λ s n h. (store-more _ _ _ _ s _ n (h .0), c .insert .ensures ∙ (rw (h .1) (with-more _ s _)))),
-    )
+loop-again c = (
+  omega arith,
+  length-set (c .before .before .before .before .before .before .loop .out) _ _ ∙ c .before .before .before .before .before .before .loop .inv .1,
+  more _ _ _ _ _ _ _ _ _ _ (c .before .before .before .before .before .before .loop .inv .2) _ (c .before .before .before .before .before .loop-test .taken) _ _ (is (c .before .before))
+      (λ s n h. (store-more _ _ _ _ s _ n (h .0), c .insert .ensures ∙ (rw (h .1) (with-more _ s _)))),
+)
 
 same-length-2 : tie.Need-same-length-2 Inv-loop μ-loop
 same-length-2 c = c .before .loop .inv .1

@@ -68,13 +68,12 @@ loop-less : tie.Need-loop-less Inv-loop μ-loop
 loop-less c = omega arith
 
 loop-again : tie.Need-loop-again Inv-loop μ-loop
-loop-again c =
-    (
-      omega arith,
-      length-set (c .before .before .before .before .before .loop .out) _ _ ∙ c .before .before .before .before .before .loop .inv .1,
-      more _ _ _ _ _ _ _ _ _ _ (c .before .before .before .before .before .loop .inv .2) _ (c .before .before .before .before .loop-test .taken) _ _ (sym (c .before .before .before .less-than .ensures) ∙ ap got (c .before .v .given .1))
-          (λ s n h. store-more _ _ _ _ s _ n h),
-    )
+loop-again c = (
+  omega arith,
+  length-set (c .before .before .before .before .before .loop .out) _ _ ∙ c .before .before .before .before .before .loop .inv .1,
+  more _ _ _ _ _ _ _ _ _ _ (c .before .before .before .before .before .loop .inv .2) _ (c .before .before .before .before .loop-test .taken) _ _ (sym (c .before .before .before .less-than .ensures) ∙ ap got (c .before .v .given .1))
+      (λ s n h. store-more _ _ _ _ s _ n h),
+)
 
 same-length-2 : tie.Need-same-length-2 Inv-loop μ-loop
 same-length-2 c = c .before .loop .inv .1

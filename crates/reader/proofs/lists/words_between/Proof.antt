@@ -22,7 +22,7 @@ abbrev Inv-loop : tie.InvT-loop
 Inv-loop file count lo hi out₀ base place₀ i₀ out place i =
     (i ≤ count) × (length out ≡ length out₀)
     × Progress (λ s. between limits lo hi 6) (λ s a. s) file count done (place₀ .at) (λ (l : List ℕ). out ≡ sets out₀ base l) i done
-        (place .at)
+    (place .at)
 
 abbrev μ-loop : tie.MeasureT-loop
 μ-loop file count lo hi out₀ base place₀ i₀ out place i = count - i
@@ -63,13 +63,12 @@ loop-less : tie.Need-loop-less Inv-loop μ-loop
 loop-less c = omega arith
 
 loop-again : tie.Need-loop-again Inv-loop μ-loop
-loop-again c =
-    (
-      omega arith,
-      length-set (c .before .before .before .before .before .loop .out) _ _ ∙ c .before .before .before .before .before .loop .inv .1,
-      more _ _ _ _ _ _ _ _ _ _ (c .before .before .before .before .before .loop .inv .2) _ (c .before .before .before .before .loop-test .taken) _ _ (sym (c .before .before .before .between .ensures) ∙ ap got (c .before .v .given .1))
-          (λ s n h. store-more _ _ _ _ s _ n h),
-    )
+loop-again c = (
+  omega arith,
+  length-set (c .before .before .before .before .before .loop .out) _ _ ∙ c .before .before .before .before .before .loop .inv .1,
+  more _ _ _ _ _ _ _ _ _ _ (c .before .before .before .before .before .loop .inv .2) _ (c .before .before .before .before .loop-test .taken) _ _ (sym (c .before .before .before .between .ensures) ∙ ap got (c .before .v .given .1))
+      (λ s n h. store-more _ _ _ _ s _ n h),
+)
 
 same-length-2 : tie.Need-same-length-2 Inv-loop μ-loop
 same-length-2 c = c .before .loop .inv .1
