@@ -12,8 +12,8 @@ use Prim.Native.Nat.{ℕ, _+_, _≤_, _<_}
 use borrow.Author.Tests.{eq-eqb, ne-eqb}
 use Rattle.words.specs.Sets as sets
 use Rattle.words.proofs.Built.{built-lt}
-use Rattle.words.specs.Sets.{Lowest}
 use Rattle.words.proofs.Counts.{lowest-is, trailing-lowest, ones-size}
+use Rattle.words.specs.Sets.{Lowest}
 use Rattle.meaning.specs.Classes.{classesBelow}
 use Rattle.meaning.specs.Reference.Tests.{lowest}
 use Rattle.meaning.proofs.Basic.Bounded.{lowest-hit, lowest-le}

@@ -1,0 +1,81 @@
+use mathlib.Core.Path.{_≡_, sym, ap, _∙_}
+use native.Mathlib.Omega.{arith}
+use Rattle.cursor.specs.Answers.{got}
+use Rattle.cursor.proofs.Judged.{between-le}
+use Rattle.reader.specs.declared.step.Step.{Step}
+use Rattle.reader.proofs.Counted.{uncounted, counted}
+use Rattle.reader.proofs.Steps.{goes-refused, goes-accepted, fits-refused, fits-more}
+use borrow.Author.Needs.{needs}
+use Rattle.reader.proofs.nodes.nodes.Statement.{statement}
+use Rattle.reader.proofs.nodes.nodes.Tie as tie
+
+enum-known-outcome : tie.Need-enum-known-outcome
+enum-known-outcome c = search needs
+
+refused-requires : tie.Need-refused-requires
+refused-requires c κs = search needs
+
+enum-told : tie.Need-enum-told
+enum-told c = search needs
+
+between-requires : tie.Need-between-requires
+between-requires c κs = search needs
+
+enum-known-r : tie.Need-enum-known-r
+enum-known-r c = search needs
+
+refused-requires-2 : tie.Need-refused-requires-2
+refused-requires-2 c κs = search needs
+
+enum-known-count : tie.Need-enum-known-count
+enum-known-count c = search needs
+
+accepted-requires : tie.Need-accepted-requires
+accepted-requires c κs = search needs
+
+all-nodes-requires : tie.Need-all-nodes-requires
+all-nodes-requires c κs =
+    let few = between-le _ _ _ _ _ _ _ (sym (c .before .before .before .before .between .ensures) ∙ ap got (c .before .before .count .given .1)) in
+    let n = ap (λ (p : Step). p .instrument .nodecount) (c .accepted .ensures) in
+    let s = ap (λ (p : Step). p .instrument .signals) (c .accepted .ensures) in
+    (omega (arith, few, c .before .before .before .before .before .before .before .before .before .pre .few-nodes), omega (arith, c .before .before .before .before .before .before .before .before .before .pre .few-signals))
+
+returns : tie.Need-returns
+returns c = (goes-refused _ _ _ _ _ (c .before .before .outcome .given .1) (c .refused .ensures), fits-refused _ _ _ _ _ (c .refused .ensures))
+
+returns-2 : tie.Need-returns-2
+returns-2 c = (
+  goes-accepted _ _ _ _ (c .before .before .before .before .before .before .enum-told .given .1)
+      (uncounted _ _ _ _ _ _ _ _ (sym (c .before .before .before .before .between .ensures) ∙ ap got (c .before .before .r .given .1)) (c .refused2 .ensures)),
+  fits-refused _ _ _ _ _ (c .refused2 .ensures),
+)
+
+returns-3 : tie.Need-returns-3
+returns-3 c =
+    let b = sym (c .before .before .before .before .before .between .ensures) ∙ ap got (c .before .before .before .count .given .1) in
+    let few = between-le _ _ _ _ _ _ _ b in
+    let components = ap (λ (p : Step). p .instrument .components) (c .before .accepted .ensures) in
+    let n = ap (λ (p : Step). p .instrument .nodecount) (c .before .accepted .ensures) in
+    let s = ap (λ (p : Step). p .instrument .startcount) (c .before .accepted .ensures) in
+    let p = c .before .before .before .before .before .before .before .before .before .before .pre in (
+      goes-accepted _ _ _ _ (c .before .before .before .before .before .before .before .enum-told .given .1) (counted _ _ _ _ _ _ _ _ _ _ b (c .before .accepted .ensures) (c .all-nodes .ensures .0)),
+      fits-more _ _ _ _ _ _ _ (omega (arith, p .few-components)) (omega (arith, few, p .few-nodes)) (omega (arith, p .few-starts))
+          (c .all-nodes .ensures .1),
+    )
+
+pub nodes-spec : {M : Type 1} → statement M
+nodes-spec =
+    tie.close
+    (tie.spec
+    enum-known-outcome
+    refused-requires
+    enum-told
+    between-requires
+    enum-known-r
+    refused-requires-2
+    enum-known-count
+    accepted-requires
+    all-nodes-requires
+    returns
+    returns-2
+    returns-3)

@@ -1,0 +1,40 @@
+use mathlib.Core.Path.{sym, ap, _∙_}
+use Rattle.meaning.specs.File.Grammar.{readFile}
+use Rattle.reader.specs.Outcomes.{faultNumber, layoutOf}
+use Rattle.reader.proofs.Steps.{refused-was, accepted-was}
+use borrow.Author.Needs.{needs}
+use Rattle.reader.proofs.read.Statement.{statement}
+use Rattle.reader.proofs.read.Tie as tie
+
+whole-requires : tie.Need-whole-requires
+whole-requires c κs = search needs
+
+enum-known-outcome : tie.Need-enum-known-outcome
+enum-known-outcome c = search needs
+
+empty-requires : tie.Need-empty-requires
+empty-requires c κs = search needs
+
+enum-told : tie.Need-enum-told
+enum-told c = search needs
+
+returns : tie.Need-returns
+returns c =
+    let e = refused-was (c .before .before .before .before .whole .result) _ (readFile (c .before .before .before .before .before .before .args .file .now)) (c .before .before .outcome .given .1) (c .before .before .before .before .whole .ensures .0) in
+    (sym (ap faultNumber e), c .empty .ensures ∙ sym (ap layoutOf e))
+
+returns-2 : tie.Need-returns-2
+returns-2 c =
+    let w = accepted-was (c .before .before .before .whole .result) (readFile (c .before .before .before .before .before .args .file .now)) (c .before .enum-told .given .1) (c .before .before .before .whole .ensures .0) in
+    (sym (ap faultNumber (w .is)), w .same ∙ sym (ap layoutOf (w .is)))
+
+pub read-spec : {M : Type 1} → statement M
+read-spec =
+    tie.close
+    (tie.spec
+    whole-requires
+    enum-known-outcome
+    empty-requires
+    enum-told
+    returns
+    returns-2)

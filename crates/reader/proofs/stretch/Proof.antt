@@ -1,0 +1,57 @@
+use mathlib.Core.Path.{sym, ap}
+use native.Mathlib.Omega.{arith}
+use Rattle.meaning.specs.File.Parser.{on}
+use Rattle.reader.specs.Outcomes.{faultNumber}
+use Rattle.reader.specs.Stretches.{startOf, endOf}
+use Rattle.reader.specs.Stages.{addComponent, readFirst}
+use Rattle.reader.proofs.Places.{locates-refused, stretch-fault, stretch-found}
+use Rattle.reader.proofs.Steps.{refused-was, accepted-was}
+use borrow.Author.Needs.{needs}
+use Rattle.reader.proofs.stretch.Statement.{statement}
+use Rattle.reader.proofs.stretch.Tie as tie
+
+first-requires : tie.Need-first-requires
+first-requires c κs = search needs
+
+component-requires : tie.Need-component-requires
+component-requires c κs =
+    let f = c .first .ensures .1 in
+    (omega (arith, f .few-components, c .before .before .pre), f .few-signals)
+
+enum-known-outcome : tie.Need-enum-known-outcome
+enum-known-outcome c = search needs
+
+nowhere-requires : tie.Need-nowhere-requires
+nowhere-requires c κs = search needs
+
+enum-told : tie.Need-enum-told
+enum-told c = search needs
+
+returns : tie.Need-returns
+returns c =
+    let file = c .before .before .before .before .before .before .before .args .file .now in
+    let g = readFirst (c .before .before .before .before .before .before .before .args .c) file 0 in
+    let e =
+    refused-was (c .before .before .before .before .component .result) _ (on g (λ k at. addComponent k file at)) (c .before .before .outcome .given .1) (c .before .before .before .before .component .ensures .0 .on-from g (c .before .before .before .before .before .first .ensures .0)) in
+    locates-refused _ _ _ (c .nowhere .ensures) (stretch-fault file (c .before .before .before .before .before .before .before .args .c) (c .before .before .before .before .before .first .result) (c .before .before .before .before .before .first .ensures .0) _ e)
+
+returns-2 : tie.Need-returns-2
+returns-2 c =
+    let file = c .before .before .before .before .before .args .file .now in
+    let g = readFirst (c .before .before .before .before .before .args .c) file 0 in
+    let w =
+    accepted-was (c .before .before .component .result) (on g (λ k at. addComponent k file at)) (c .enum-told .given .1) (c .before .before .component .ensures .0 .on-from g (c .before .before .before .first .ensures .0)) in
+    let e = stretch-found file (c .before .before .before .before .before .args .c) (c .before .before .before .first .result) (c .before .before .before .first .ensures .0) _ _ (w .is) in
+    record { outcome-is = sym (ap faultNumber e); start-is = sym (ap startOf e); end-is = sym (ap endOf e) }
+
+pub stretch-spec : {M : Type 1} → statement M
+stretch-spec =
+    tie.close
+    (tie.spec
+    first-requires
+    component-requires
+    enum-known-outcome
+    nowhere-requires
+    enum-told
+    returns
+    returns-2)

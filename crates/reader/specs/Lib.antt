@@ -1,0 +1,7 @@
+-- what the reader answers
+pub mod Outcomes
+pub mod Stretches
+-- what its functions promise each other
+pub mod Stages
+pub mod Steps
+pub mod Formulas

@@ -1,0 +1,23 @@
+-- What the reader's answers say in document 01's words: the number of the outcome, and the instrument of what was found.
+use Prim.Native.Nat.{ℕ}
+use Rattle.meaning.specs.File.Parser.{Got, found, fault}
+use Rattle.meaning.specs.File.Grammar.{Contents}
+use Rattle.cursor.specs.Answers.{number}
+use Rattle.instrument.specs.declared.Instrument.{Instrument}
+use Rattle.instrument.specs.Layout.{layout, nothing}
+use Rattle.reader.specs.declared.Outcome.{Outcome}
+use Rattle.reader.specs.declared.Outcome.the-variants.{Accepted, Refused}
+
+-- 0 where the file is accepted, else the number of the refusal
+abbrev pub outcomeNumber : Outcome → ℕ
+outcomeNumber Accepted = 0
+outcomeNumber (Refused r) = number r
+
+abbrev pub faultNumber : {A : Type 0} → Got A → ℕ
+faultNumber (found a at) = 0
+faultNumber (fault r) = r
+
+-- the instrument of the contents, the empty one where the file is refused
+abbrev pub layoutOf : Got Contents → Instrument
+layoutOf (found k at) = layout k
+layoutOf (fault r) = layout nothing
