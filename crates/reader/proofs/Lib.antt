@@ -9,3 +9,5 @@ pub mod Steps
 pub mod Counted
 pub mod Files
 pub mod Places
+pub mod Forward
+pub mod Stretched

@@ -17,16 +17,21 @@ refused-requires-2 : tie.Need-refused-requires-2
 refused-requires-2 c κs = search needs
 
 returns : tie.Need-returns
-returns c = (
-  goes-accepted _ _ _ _ (c .before .before .enum-told .given .1) (trailing _ _ _ _ (c .before .if1 .taken) (c .refused2 .ensures)),
-  fits-refused _ _ _ _ _ (c .refused2 .ensures),
-)
+returns c =
+    let enum-told′ = c .before .before .enum-told in (
+      goes-accepted _ _ _ _ (enum-told′ .given .1) (trailing _ _ _ _ (c .before .if1 .taken) (c .refused2 .ensures)),
+      fits-refused _ _ _ _ _ (c .refused2 .ensures),
+    )
 
 returns-2 : tie.Need-returns-2
-returns-2 c = (goes-refused _ _ _ _ _ (c .before .before .outcome .given .1) (c .refused .ensures), fits-refused _ _ _ _ _ (c .refused .ensures))
+returns-2 c =
+    let outcome′ = c .before .before .outcome in
+    (goes-refused _ _ _ _ _ (outcome′ .given .1) (c .refused .ensures), fits-refused _ _ _ _ _ (c .refused .ensures))
 
 returns-3 : tie.Need-returns-3
-returns-3 c = (ended _ _ (c .before .enum-told .given .1) (c .if1 .left), c .before .before .before .before .pre)
+returns-3 c =
+    let pre′ = c .before .before .before .before .pre in
+    (ended _ _ (c .before .enum-told .given .1) (c .if1 .left), pre′)
 
 pub finish-spec : {M : Type 1} → statement M
 finish-spec =

@@ -26,22 +26,33 @@ nowhere-requires-2 c κs = search needs
 
 returns : tie.Need-returns
 returns c =
-    let w = accepted-was (c .before .before .before .before .before .before .whole .result) (readFile (c .before .before .before .before .before .before .before .before .args .file .now)) (c .before .before .before .before .enum-told .given .1) (c .before .before .before .before .before .before .whole .ensures .0) in
+    let whole′ = c .before .before .before .before .before .before .whole in
+    let args′ = c .before .before .before .before .before .before .before .before .args in
+    let enum-told′ = c .before .before .before .before .enum-told in
+    let w = accepted-was (whole′ .result) (readFile (args′ .file .now)) (enum-told′ .given .1) (whole′ .ensures .0) in
     let l = locates-refused _ _ _ (c .nowhere2 .ensures) (located-beyond _ _ _ _ _ (w .is) (w .same) (c .before .if1 .taken)) in
     (l .outcome-is, (l .start-is, l .end-is))
 
 stretch-requires : tie.Need-stretch-requires
-stretch-requires c κs = omega (arith, c .before .before .before .before .before .whole .ensures .1 .few-components, c .if1 .left)
+stretch-requires c κs =
+    let whole′ = c .before .before .before .before .before .whole in
+    omega (arith, whole′ .ensures .1 .few-components, c .if1 .left)
 
 returns-2 : tie.Need-returns-2
 returns-2 c =
-    let e = refused-was (c .before .before .before .before .whole .result) _ (readFile (c .before .before .before .before .before .before .args .file .now)) (c .before .before .outcome .given .1) (c .before .before .before .before .whole .ensures .0) in
+    let whole′ = c .before .before .before .before .whole in
+    let args′ = c .before .before .before .before .before .before .args in
+    let outcome′ = c .before .before .outcome in
+    let e = refused-was (whole′ .result) _ (readFile (args′ .file .now)) (outcome′ .given .1) (whole′ .ensures .0) in
     let l = locates-refused _ _ _ (c .nowhere .ensures) (located-fault _ _ _ e) in
     (l .outcome-is, (l .start-is, l .end-is))
 
 returns-3 : tie.Need-returns-3
 returns-3 c =
-    let w = accepted-was (c .before .before .before .before .before .before .whole .result) (readFile (c .before .before .before .before .before .before .before .before .args .file .now)) (c .before .before .before .before .enum-told .given .1) (c .before .before .before .before .before .before .whole .ensures .0) in
+    let whole′ = c .before .before .before .before .before .before .whole in
+    let args′ = c .before .before .before .before .before .before .before .before .args in
+    let enum-told′ = c .before .before .before .before .enum-told in
+    let w = accepted-was (whole′ .result) (readFile (args′ .file .now)) (enum-told′ .given .1) (whole′ .ensures .0) in
     let e = located-within _ _ _ _ _ (w .is) (w .same) (c .before .if1 .left) in
     let l = c .stretch .ensures in
     (l .outcome-is ∙ sym (ap faultNumber e), (l .start-is ∙ sym (ap startOf e), l .end-is ∙ sym (ap endOf e)))

@@ -20,12 +20,17 @@ enum-told c = search needs
 
 returns : tie.Need-returns
 returns c =
-    let e = refused-was (c .before .before .before .before .whole .result) _ (readFile (c .before .before .before .before .before .before .args .file .now)) (c .before .before .outcome .given .1) (c .before .before .before .before .whole .ensures .0) in
+    let whole′ = c .before .before .before .before .whole in
+    let args′ = c .before .before .before .before .before .before .args in
+    let outcome′ = c .before .before .outcome in
+    let e = refused-was (whole′ .result) _ (readFile (args′ .file .now)) (outcome′ .given .1) (whole′ .ensures .0) in
     (sym (ap faultNumber e), c .empty .ensures ∙ sym (ap layoutOf e))
 
 returns-2 : tie.Need-returns-2
 returns-2 c =
-    let w = accepted-was (c .before .before .before .whole .result) (readFile (c .before .before .before .before .before .args .file .now)) (c .before .enum-told .given .1) (c .before .before .before .whole .ensures .0) in
+    let whole′ = c .before .before .before .whole in
+    let args′ = c .before .before .before .before .before .args in
+    let w = accepted-was (whole′ .result) (readFile (args′ .file .now)) (c .before .enum-told .given .1) (whole′ .ensures .0) in
     (sym (ap faultNumber (w .is)), w .same ∙ sym (ap layoutOf (w .is)))
 
 pub read-spec : {M : Type 1} → statement M

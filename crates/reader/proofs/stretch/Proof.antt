@@ -15,8 +15,9 @@ first-requires c κs = search needs
 
 component-requires : tie.Need-component-requires
 component-requires c κs =
+    let pre′ = c .before .before .pre in
     let f = c .first .ensures .1 in
-    (omega (arith, f .few-components, c .before .before .pre), f .few-signals)
+    (omega (arith, f .few-components, pre′), f .few-signals)
 
 enum-known-outcome : tie.Need-enum-known-outcome
 enum-known-outcome c = search needs
@@ -29,19 +30,26 @@ enum-told c = search needs
 
 returns : tie.Need-returns
 returns c =
-    let file = c .before .before .before .before .before .before .before .args .file .now in
-    let g = readFirst (c .before .before .before .before .before .before .before .args .c) file 0 in
+    let args′ = c .before .before .before .before .before .before .before .args in
+    let component′ = c .before .before .before .before .component in
+    let outcome′ = c .before .before .outcome in
+    let first′ = c .before .before .before .before .before .first in
+    let file = args′ .file .now in
+    let g = readFirst (args′ .c) file 0 in
     let e =
-    refused-was (c .before .before .before .before .component .result) _ (on g (λ k at. addComponent k file at)) (c .before .before .outcome .given .1) (c .before .before .before .before .component .ensures .0 .on-from g (c .before .before .before .before .before .first .ensures .0)) in
-    locates-refused _ _ _ (c .nowhere .ensures) (stretch-fault file (c .before .before .before .before .before .before .before .args .c) (c .before .before .before .before .before .first .result) (c .before .before .before .before .before .first .ensures .0) _ e)
+    refused-was (component′ .result) _ (on g (λ k at. addComponent k file at)) (outcome′ .given .1) (component′ .ensures .0 .on-from g (first′ .ensures .0)) in
+    locates-refused _ _ _ (c .nowhere .ensures) (stretch-fault file (args′ .c) (first′ .result) (first′ .ensures .0) _ e)
 
 returns-2 : tie.Need-returns-2
 returns-2 c =
-    let file = c .before .before .before .before .before .args .file .now in
-    let g = readFirst (c .before .before .before .before .before .args .c) file 0 in
+    let args′ = c .before .before .before .before .before .args in
+    let component′ = c .before .before .component in
+    let first′ = c .before .before .before .first in
+    let file = args′ .file .now in
+    let g = readFirst (args′ .c) file 0 in
     let w =
-    accepted-was (c .before .before .component .result) (on g (λ k at. addComponent k file at)) (c .enum-told .given .1) (c .before .before .component .ensures .0 .on-from g (c .before .before .before .first .ensures .0)) in
-    let e = stretch-found file (c .before .before .before .before .before .args .c) (c .before .before .before .first .result) (c .before .before .before .first .ensures .0) _ _ (w .is) in
+    accepted-was (component′ .result) (on g (λ k at. addComponent k file at)) (c .enum-told .given .1) (component′ .ensures .0 .on-from g (first′ .ensures .0)) in
+    let e = stretch-found file (args′ .c) (first′ .result) (first′ .ensures .0) _ _ (w .is) in
     record { outcome-is = sym (ap faultNumber e); start-is = sym (ap startOf e); end-is = sym (ap endOf e) }
 
 pub stretch-spec : {M : Type 1} → statement M

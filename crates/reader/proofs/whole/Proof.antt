@@ -21,11 +21,14 @@ finish-requires c κs = c .starts .ensures .1
 
 returns : tie.Need-returns
 returns c =
-    let file = c .before .before .before .before .before .args .file .now in
+    let args′ = c .before .before .before .before .before .args in
+    let nodes′ = c .before .before .nodes in
+    let tables′ = c .before .before .before .tables in
+    let file = args′ .file .now in
     let t = readTables file 0 in
     let n = on t (λ k at. readNodes k file at) in
     let s = on n (λ k at. readStarts k file at) in (
-      c .finish .ensures .0 .on-from s (c .before .starts .ensures .0 .on-from n (c .before .before .nodes .ensures .0 .on-from t (c .before .before .before .tables .ensures .0)))
+      c .finish .ensures .0 .on-from s (c .before .starts .ensures .0 .on-from n (nodes′ .ensures .0 .on-from t (tables′ .ensures .0)))
           ∙ ap (mapped layout) (in-stages file),
       c .finish .ensures .1,
     )

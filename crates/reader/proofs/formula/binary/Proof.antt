@@ -4,9 +4,6 @@ use Rattle.reader.proofs.Formulas.{two-first, two-second, two-good}
 use borrow.Author.Needs.{needs}
 use Rattle.reader.proofs.formula.binary.Statement.{statement}
 use Rattle.reader.proofs.formula.binary.Tie as tie
-use Rattle.reader.proofs.formula.binary.Reads as reads
-use Rattle.reader.proofs.formula.binary.Lts as lts
-use Rattle.cursor.proofs.Cursor.less_than.Reads as less-than-reads
 
 less-than-requires : tie.Need-less-than-requires
 less-than-requires c κs = search needs
@@ -27,17 +24,25 @@ enum-known-u : tie.Need-enum-known-u
 enum-known-u c = search needs
 
 returns : tie.Need-returns
-returns c = sym (two-first _ _ _ _ _ (sym (c .before .before .before .less-than .ensures) ∙ ap got (c .before .r .given .1)))
+returns c =
+    let less-than′ = c .before .before .before .less-than in
+    sym (two-first _ _ _ _ _ (sym (less-than′ .ensures) ∙ ap got (c .before .r .given .1)))
 
 returns-2 : tie.Need-returns-2
 returns-2 c =
+    let less-than′ = c .before .before .before .before .before .before .before .less-than in
+    let v′ = c .before .before .before .before .before .v in
+    let less-than2′ = c .before .before .before .less-than2 in
     sym
-    (two-second _ _ _ _ _ _ _ (sym (c .before .before .before .before .before .before .before .less-than .ensures) ∙ ap got (c .before .before .before .before .before .v .given .1)) (sym (c .before .before .before .less-than2 .ensures) ∙ ap got (c .before .r2 .given .1)))
+    (two-second _ _ _ _ _ _ _ (sym (less-than′ .ensures) ∙ ap got (v′ .given .1)) (sym (less-than2′ .ensures) ∙ ap got (c .before .r2 .given .1)))
 
 returns-3 : tie.Need-returns-3
 returns-3 c =
+    let less-than′ = c .before .before .before .before .before .before .before .less-than in
+    let v′ = c .before .before .before .before .before .v in
+    let less-than2′ = c .before .before .before .less-than2 in
     sym
-    (two-good _ _ _ _ _ _ _ _ (sym (c .before .before .before .before .before .before .before .less-than .ensures) ∙ ap got (c .before .before .before .before .before .v .given .1)) (sym (c .before .before .before .less-than2 .ensures) ∙ ap got (c .before .u .given .1)))
+    (two-good _ _ _ _ _ _ _ _ (sym (less-than′ .ensures) ∙ ap got (v′ .given .1)) (sym (less-than2′ .ensures) ∙ ap got (c .before .u .given .1)))
 
 pub binary-spec : {M : Type 1} → statement M
 binary-spec =

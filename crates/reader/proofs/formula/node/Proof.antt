@@ -6,10 +6,6 @@ use Rattle.reader.proofs.Formulas.{node-stopped, node-kind}
 use borrow.Author.Needs.{needs}
 use Rattle.reader.proofs.formula.node.Statement.{statement}
 use Rattle.reader.proofs.formula.node.Tie as tie
-use Rattle.reader.proofs.formula.node.Reads as reads
-use Rattle.reader.proofs.formula.node.Lts as lts
-use Rattle.cursor.proofs.Cursor.number.Reads as number-reads
-use Rattle.reader.proofs.formula.operands.Reads as operands-reads
 
 number-requires : tie.Need-number-requires
 number-requires c κs = search needs
@@ -24,14 +20,24 @@ operands-requires : tie.Need-operands-requires
 operands-requires c κs = search needs
 
 returns : tie.Need-returns
-returns c = sym (ap (mapped nodeOf) (node-stopped _ _ _ _ _ _ (sym (c .before .before .before .number .ensures) ∙ ap got (c .before .r .given .1))))
+returns c =
+    let number′ = c .before .before .before .number in
+    sym (ap (mapped nodeOf) (node-stopped _ _ _ _ _ _ (sym (number′ .ensures) ∙ ap got (c .before .r .given .1))))
 
 returns-2 : tie.Need-returns-2
 returns-2 c =
+    let number′ = c .before .before .before .before .number in
+    let kind′ = c .before .before .kind in
     c .operands .ensures
-    ∙ sym (ap (mapped nodeOf) (node-kind _ _ _ _ _ _ _ (sym (c .before .before .before .before .number .ensures) ∙ ap got (c .before .before .kind .given .1))))
+    ∙ sym (ap (mapped nodeOf) (node-kind _ _ _ _ _ _ _ (sym (number′ .ensures) ∙ ap got (kind′ .given .1))))
 
 pub node-spec : {M : Type 1} → statement M
 node-spec =
     tie.close
-    (tie.spec number-requires enum-known-r enum-known-kind operands-requires returns returns-2)
+    (tie.spec
+    number-requires
+    enum-known-r
+    enum-known-kind
+    operands-requires
+    returns
+    returns-2)

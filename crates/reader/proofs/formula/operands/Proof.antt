@@ -12,12 +12,6 @@ use Rattle.reader.specs.Formulas.{oneOperand}
 use Rattle.reader.proofs.Formulas.{one, two, unknown, beyond}
 use Rattle.reader.proofs.formula.operands.Statement.{statement}
 use Rattle.reader.proofs.formula.operands.Tie as tie
-use Rattle.reader.proofs.formula.operands.Reads as reads
-use Rattle.reader.proofs.formula.operands.Lts as lts
-use Rattle.cursor.proofs.Cursor.less_than.Reads as less-than-reads
-use Rattle.reader.proofs.formula.binary.Reads as binary-reads
-use Rattle.reader.proofs.formula.named.Reads as named-reads
-use Rattle.reader.proofs.formula.unary.Reads as unary-reads
 
 abbrev of : tie.Start → ℕ → Got Node
 of c j =
@@ -55,49 +49,61 @@ binary-requires-2 : tie.Need-binary-requires-2
 binary-requires-2 c κs = search needs
 
 returns : tie.Need-returns
-returns c = ap (of (c .before .before)) (sym (c .match .keys1))
+returns c =
+    let start′ = c .before .before in
+    ap (of start′) (sym (c .match .keys1))
 
 returns-2 : tie.Need-returns-2
 returns-2 c =
     let a = c .before .before .before .before .args in
+    let start′ = c .before .before .before .before in
+    let match′ = c .before .before .match in
     c .unary .ensures ∙ ap (mapped (oneOperand 1)) (c .before .named .ensures)
     ∙ one atom 1 (λ a. refl) (named limits (a .w) (a .driven) (a .file .now) (a .from .at))
-    ∙ ap (of (c .before .before .before .before)) (sym (c .before .before .match .keys2))
+    ∙ ap (of start′) (sym (match′ .keys2))
 
 returns-3 : tie.Need-returns-3
 returns-3 c =
     let a = c .before .before .before .before .args in
+    let start′ = c .before .before .before .before in
+    let match′ = c .before .before .match in
     c .unary2 .ensures ∙ ap (mapped (oneOperand 2)) (c .before .less-than .ensures)
     ∙ one neg 2 (λ a. refl) (lessThan limits (a .k) 7 (a .file .now) (a .from .at))
-    ∙ ap (of (c .before .before .before .before)) (sym (c .before .before .match .keys3))
+    ∙ ap (of start′) (sym (match′ .keys3))
 
 returns-4 : tie.Need-returns-4
 returns-4 c =
     let a = c .before .before .before .args in
+    let start′ = c .before .before .before in
     c .binary .ensures
     ∙ two or 3 (λ a b. refl) (lessThan limits (a .k) 7 (a .file .now) (a .from .at)) (λ n. lessThan limits (a .k) 7 (a .file .now) n)
-    ∙ ap (of (c .before .before .before)) (sym (c .before .match .keys4))
+    ∙ ap (of start′) (sym (c .before .match .keys4))
 
 returns-5 : tie.Need-returns-5
 returns-5 c =
     let a = c .before .before .before .before .args in
+    let start′ = c .before .before .before .before in
+    let match′ = c .before .before .match in
     c .unary3 .ensures ∙ ap (mapped (oneOperand 4)) (c .before .less-than2 .ensures)
     ∙ one ex 4 (λ a. refl) (lessThan limits (a .k) 7 (a .file .now) (a .from .at))
-    ∙ ap (of (c .before .before .before .before)) (sym (c .before .before .match .keys5))
+    ∙ ap (of start′) (sym (match′ .keys5))
 
 returns-6 : tie.Need-returns-6
 returns-6 c =
     let a = c .before .before .before .before .args in
+    let start′ = c .before .before .before .before in
+    let match′ = c .before .before .match in
     c .unary4 .ensures ∙ ap (mapped (oneOperand 5)) (c .before .less-than3 .ensures)
     ∙ one eg 5 (λ a. refl) (lessThan limits (a .k) 7 (a .file .now) (a .from .at))
-    ∙ ap (of (c .before .before .before .before)) (sym (c .before .before .match .keys6))
+    ∙ ap (of start′) (sym (match′ .keys6))
 
 returns-7 : tie.Need-returns-7
 returns-7 c =
     let a = c .before .before .before .args in
+    let start′ = c .before .before .before in
     c .binary2 .ensures
     ∙ two eu 6 (λ a b. refl) (lessThan limits (a .k) 7 (a .file .now) (a .from .at)) (λ n. lessThan limits (a .k) 7 (a .file .now) n)
-    ∙ ap (of (c .before .before .before)) (sym (c .before .match .keys7))
+    ∙ ap (of start′) (sym (c .before .match .keys7))
 
 returns-8 : tie.Need-returns-8
 returns-8 c =

@@ -5,8 +5,6 @@ use Rattle.reader.specs.Formulas.{oneOperand}
 use borrow.Author.Needs.{needs}
 use Rattle.reader.proofs.formula.unary.Statement.{statement}
 use Rattle.reader.proofs.formula.unary.Tie as tie
-use Rattle.reader.proofs.formula.unary.Reads as reads
-use Rattle.reader.proofs.formula.unary.Lts as lts
 
 enum-known-operand : tie.Need-enum-known-operand
 enum-known-operand c = search needs
@@ -15,10 +13,20 @@ enum-known-operand-2 : tie.Need-enum-known-operand-2
 enum-known-operand-2 c = search needs
 
 returns : tie.Need-returns
-returns c = sym (ap (λ o. mapped (oneOperand (c .before .before .before .args .kind)) (got o)) (c .before .operand .given .1))
+returns c =
+    let args′ = c .before .before .before .args in
+    sym (ap (λ o. mapped (oneOperand (args′ .kind)) (got o)) (c .before .operand .given .1))
 
 returns-2 : tie.Need-returns-2
-returns-2 c = sym (ap (λ o. mapped (oneOperand (c .before .before .before .args .kind)) (got o)) (c .before .operand2 .given .1))
+returns-2 c =
+    let args′ = c .before .before .before .args in
+    sym (ap (λ o. mapped (oneOperand (args′ .kind)) (got o)) (c .before .operand2 .given .1))
 
 pub unary-spec : {M : Type 1} → statement M
-unary-spec = tie.close (tie.spec enum-known-operand enum-known-operand-2 returns returns-2)
+unary-spec =
+    tie.close
+    (tie.spec
+    enum-known-operand
+    enum-known-operand-2
+    returns
+    returns-2)

@@ -15,10 +15,6 @@ use Rattle.reader.proofs.Stores.{store-more, stored-stop, stored-end, w
 use Rattle.reader.proofs.Signals.{signal-below}
 use Rattle.reader.proofs.lists.signals.Statement.{statement}
 use Rattle.reader.proofs.lists.signals.Tie as tie
-use Rattle.reader.proofs.lists.signals.Reads as reads
-use Rattle.reader.proofs.lists.signals.Lts as lts
-use Rattle.reader.proofs.lists.signal.Reads as signal-reads
-use Rattle.words.proofs.insert.Reads as insert-reads
 
 abbrev Inv-loop : tie.InvT-loop
 Inv-loop file count w taken known out₀ base place₀ low₀ set₀ i₀ out place low set i =
@@ -50,11 +46,16 @@ enum-known-r : tie.Need-enum-known-r Inv-loop μ-loop
 enum-known-r c = search needs
 
 same-length : tie.Need-same-length Inv-loop μ-loop
-same-length c = c .before .before .before .before .before .loop .inv .1
+same-length c =
+    let loop′ = c .before .before .before .before .before .loop in
+    loop′ .inv .1
 
 returns : tie.Need-returns Inv-loop μ-loop
 returns c =
-    let e = stop _ _ _ _ _ _ _ _ _ _ (c .before .before .before .before .before .loop .inv .2) (c .before .before .before .before .loop-test .taken) _ (sym (c .before .before .before .signal .ensures) ∙ ap got (c .before .r .given .1)) in
+    let loop′ = c .before .before .before .before .before .loop in
+    let loop-test′ = c .before .before .before .before .loop-test in
+    let signal′ = c .before .before .before .signal in
+    let e = stop _ _ _ _ _ _ _ _ _ _ (loop′ .inv .2) (loop-test′ .taken) _ (sym (signal′ .ensures) ∙ ap got (c .before .r .given .1)) in
     (sym (ap (mapped (withAll _)) e), stored-stop _ _ _ _ _ _ e)
 
 enum-known-v : tie.Need-enum-known-v Inv-loop μ-loop
@@ -70,10 +71,15 @@ slice-write-out : tie.Need-slice-write-out Inv-loop μ-loop
 slice-write-out c = omega arith
 
 insert-requires : tie.Need-insert-requires Inv-loop μ-loop
-insert-requires c κs = omega (arith, small (c .before), c .before .before .before .before .before .before .before .before .pre .0)
+insert-requires c κs =
+    let pre′ = c .before .before .before .before .before .before .before .before .pre in
+    omega (arith, small (c .before), pre′ .0)
 
 add-low : tie.Need-add-low Inv-loop μ-loop
-add-low c = omega (arith, small (c .before .before), c .before .before .before .before .before .before .before .before .before .pre .0)
+add-low c =
+    let after-v′ = c .before .before in
+    let pre′ = c .before .before .before .before .before .before .before .before .before .pre in
+    omega (arith, small after-v′, pre′ .0)
 
 add-i : tie.Need-add-i Inv-loop μ-loop
 add-i c = omega arith
@@ -82,12 +88,15 @@ loop-less : tie.Need-loop-less Inv-loop μ-loop
 loop-less c = omega arith
 
 loop-again : tie.Need-loop-again Inv-loop μ-loop
-loop-again c = (
-  omega arith,
-  length-set (c .before .before .before .before .before .before .loop .out) _ _ ∙ c .before .before .before .before .before .before .loop .inv .1,
-  more _ _ _ _ _ _ _ _ _ _ (c .before .before .before .before .before .before .loop .inv .2) _ (c .before .before .before .before .before .loop-test .taken) _ _ (is (c .before .before))
-      (λ s n h. (store-more _ _ _ _ s _ n (h .0), c .insert .ensures ∙ (rw (h .1) (with-more _ s _)))),
-)
+loop-again c =
+    let loop′ = c .before .before .before .before .before .before .loop in
+    let loop-test′ = c .before .before .before .before .before .loop-test in
+    let after-v′ = c .before .before in (
+      omega arith,
+      length-set (loop′ .out) _ _ ∙ loop′ .inv .1,
+      more _ _ _ _ _ _ _ _ _ _ (loop′ .inv .2) _ (loop-test′ .taken) _ _ (is after-v′)
+          (λ s n h. (store-more _ _ _ _ s _ n (h .0), c .insert .ensures ∙ (rw (h .1) (with-more _ s _)))),
+    )
 
 same-length-2 : tie.Need-same-length-2 Inv-loop μ-loop
 same-length-2 c = c .before .loop .inv .1

@@ -14,9 +14,6 @@ use Rattle.reader.specs.Stages.{mapped}
 use Rattle.reader.proofs.Stores.{store-more, stored-stop, stored-end}
 use Rattle.reader.proofs.lists.words_between.Statement.{statement}
 use Rattle.reader.proofs.lists.words_between.Tie as tie
-use Rattle.reader.proofs.lists.words_between.Reads as reads
-use Rattle.reader.proofs.lists.words_between.Lts as lts
-use Rattle.cursor.proofs.Cursor.between.Reads as between-reads
 
 abbrev Inv-loop : tie.InvT-loop
 Inv-loop file count lo hi out₀ base place₀ i₀ out place i =
@@ -37,11 +34,16 @@ enum-known-r : tie.Need-enum-known-r Inv-loop μ-loop
 enum-known-r c = search needs
 
 same-length : tie.Need-same-length Inv-loop μ-loop
-same-length c = c .before .before .before .before .before .loop .inv .1
+same-length c =
+    let loop′ = c .before .before .before .before .before .loop in
+    loop′ .inv .1
 
 returns : tie.Need-returns Inv-loop μ-loop
 returns c =
-    let e = stop _ _ _ _ _ _ _ _ _ _ (c .before .before .before .before .before .loop .inv .2) (c .before .before .before .before .loop-test .taken) _ (sym (c .before .before .before .between .ensures) ∙ ap got (c .before .r .given .1)) in
+    let loop′ = c .before .before .before .before .before .loop in
+    let loop-test′ = c .before .before .before .before .loop-test in
+    let between′ = c .before .before .before .between in
+    let e = stop _ _ _ _ _ _ _ _ _ _ (loop′ .inv .2) (loop-test′ .taken) _ (sym (between′ .ensures) ∙ ap got (c .before .r .given .1)) in
     (sym (ap (mapped (λ vs. done)) e), stored-stop _ _ _ _ _ _ e)
 
 enum-known-v : tie.Need-enum-known-v Inv-loop μ-loop
@@ -63,12 +65,15 @@ loop-less : tie.Need-loop-less Inv-loop μ-loop
 loop-less c = omega arith
 
 loop-again : tie.Need-loop-again Inv-loop μ-loop
-loop-again c = (
-  omega arith,
-  length-set (c .before .before .before .before .before .loop .out) _ _ ∙ c .before .before .before .before .before .loop .inv .1,
-  more _ _ _ _ _ _ _ _ _ _ (c .before .before .before .before .before .loop .inv .2) _ (c .before .before .before .before .loop-test .taken) _ _ (sym (c .before .before .before .between .ensures) ∙ ap got (c .before .v .given .1))
-      (λ s n h. store-more _ _ _ _ s _ n h),
-)
+loop-again c =
+    let loop′ = c .before .before .before .before .before .loop in
+    let loop-test′ = c .before .before .before .before .loop-test in
+    let between′ = c .before .before .before .between in (
+      omega arith,
+      length-set (loop′ .out) _ _ ∙ loop′ .inv .1,
+      more _ _ _ _ _ _ _ _ _ _ (loop′ .inv .2) _ (loop-test′ .taken) _ _ (sym (between′ .ensures) ∙ ap got (c .before .v .given .1))
+          (λ s n h. store-more _ _ _ _ s _ n h),
+    )
 
 same-length-2 : tie.Need-same-length-2 Inv-loop μ-loop
 same-length-2 c = c .before .loop .inv .1

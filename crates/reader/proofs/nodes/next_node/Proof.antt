@@ -47,28 +47,37 @@ accepted-requires : tie.Need-accepted-requires
 accepted-requires c κs = search needs
 
 returns : tie.Need-returns
-returns c = (goes-refused _ _ _ _ _ (c .before .before .outcome .given .1) (c .refused .ensures), fits-refused _ _ _ _ _ (c .refused .ensures))
+returns c =
+    let outcome′ = c .before .before .outcome in
+    (goes-refused _ _ _ _ _ (outcome′ .given .1) (c .refused .ensures), fits-refused _ _ _ _ _ (c .refused .ensures))
 
 returns-2 : tie.Need-returns-2
-returns-2 c = (
-  goes-accepted _ _ _ _ (c .before .before .before .before .before .before .enum-told .given .1)
-      (record {
-        laid =
-            λ k e. laid-refused _ _ _ (c .refused2 .ensures)
-            (add-node _ k e _ _ _ (was-fault nodeOf _ _ (sym (ap gotNode (c .before .before .r .given .1)) ∙ c .before .before .before .before .node .ensures)));
-      }),
-  fits-refused _ _ _ _ _ (c .refused2 .ensures),
-)
+returns-2 c =
+    let enum-told′ = c .before .before .before .before .before .before .enum-told in
+    let r′ = c .before .before .r in
+    let node′ = c .before .before .before .before .node in (
+      goes-accepted _ _ _ _ (enum-told′ .given .1)
+          (record {
+            laid =
+                λ k e. laid-refused _ _ _ (c .refused2 .ensures)
+                (add-node _ k e _ _ _ (was-fault nodeOf _ _ (sym (ap gotNode (r′ .given .1)) ∙ node′ .ensures)));
+          }),
+      fits-refused _ _ _ _ _ (c .refused2 .ensures),
+    )
 
 returns-3 : tie.Need-returns-3
 returns-3 c =
-    let w = was nodeOf _ _ _ (sym (ap gotNode (c .before .before .n .given .1)) ∙ c .before .before .before .before .node .ensures) in (
-      goes-accepted _ _ _ _ (c .before .before .before .before .before .before .enum-told .given .1)
+    let n′ = c .before .before .n in
+    let node′ = c .before .before .before .before .node in
+    let enum-told′ = c .before .before .before .before .before .before .enum-told in
+    let pre′ = c .before .before .before .before .before .before .before .before .before .pre in
+    let w = was nodeOf _ _ _ (sym (ap gotNode (n′ .given .1)) ∙ node′ .ensures) in (
+      goes-accepted _ _ _ _ (enum-told′ .given .1)
           (record {
             laid = λ k e. laid-accepted _ _ _ _ _ (c .accepted .ensures) (node-laid _ k e (w .value) _ (w .same)) (add-node _ k e _ _ _ (w .is));
           }),
       fits-accepted _ _ _ _ _ _ (c .accepted .ensures)
-          (record { few-components = omega arith; few-signals = c .before .before .before .before .before .before .before .before .before .pre .1; few-nodes = omega arith; few-starts = omega arith }),
+          (record { few-components = omega arith; few-signals = pre′ .1; few-nodes = omega arith; few-starts = omega arith }),
     )
 
 pub next-node-spec : {M : Type 1} → statement M

@@ -35,30 +35,41 @@ accepted-requires c κs = search needs
 
 all-nodes-requires : tie.Need-all-nodes-requires
 all-nodes-requires c κs =
-    let few = between-le _ _ _ _ _ _ _ (sym (c .before .before .before .before .between .ensures) ∙ ap got (c .before .before .count .given .1)) in
+    let between′ = c .before .before .before .before .between in
+    let count′ = c .before .before .count in
+    let pre′ = c .before .before .before .before .before .before .before .before .before .pre in
+    let few = between-le _ _ _ _ _ _ _ (sym (between′ .ensures) ∙ ap got (count′ .given .1)) in
     let n = ap (λ (p : Step). p .instrument .nodecount) (c .accepted .ensures) in
     let s = ap (λ (p : Step). p .instrument .signals) (c .accepted .ensures) in
-    (omega (arith, few, c .before .before .before .before .before .before .before .before .before .pre .few-nodes), omega (arith, c .before .before .before .before .before .before .before .before .before .pre .few-signals))
+    (omega (arith, few, pre′ .few-nodes), omega (arith, pre′ .few-signals))
 
 returns : tie.Need-returns
-returns c = (goes-refused _ _ _ _ _ (c .before .before .outcome .given .1) (c .refused .ensures), fits-refused _ _ _ _ _ (c .refused .ensures))
+returns c =
+    let outcome′ = c .before .before .outcome in
+    (goes-refused _ _ _ _ _ (outcome′ .given .1) (c .refused .ensures), fits-refused _ _ _ _ _ (c .refused .ensures))
 
 returns-2 : tie.Need-returns-2
-returns-2 c = (
-  goes-accepted _ _ _ _ (c .before .before .before .before .before .before .enum-told .given .1)
-      (uncounted _ _ _ _ _ _ _ _ (sym (c .before .before .before .before .between .ensures) ∙ ap got (c .before .before .r .given .1)) (c .refused2 .ensures)),
-  fits-refused _ _ _ _ _ (c .refused2 .ensures),
-)
+returns-2 c =
+    let enum-told′ = c .before .before .before .before .before .before .enum-told in
+    let between′ = c .before .before .before .before .between in
+    let r′ = c .before .before .r in (
+      goes-accepted _ _ _ _ (enum-told′ .given .1)
+          (uncounted _ _ _ _ _ _ _ _ (sym (between′ .ensures) ∙ ap got (r′ .given .1)) (c .refused2 .ensures)),
+      fits-refused _ _ _ _ _ (c .refused2 .ensures),
+    )
 
 returns-3 : tie.Need-returns-3
 returns-3 c =
-    let b = sym (c .before .before .before .before .before .between .ensures) ∙ ap got (c .before .before .before .count .given .1) in
+    let between′ = c .before .before .before .before .before .between in
+    let count′ = c .before .before .before .count in
+    let p = c .before .before .before .before .before .before .before .before .before .before .pre in
+    let enum-told′ = c .before .before .before .before .before .before .before .enum-told in
+    let b = sym (between′ .ensures) ∙ ap got (count′ .given .1) in
     let few = between-le _ _ _ _ _ _ _ b in
     let components = ap (λ (p : Step). p .instrument .components) (c .before .accepted .ensures) in
     let n = ap (λ (p : Step). p .instrument .nodecount) (c .before .accepted .ensures) in
-    let s = ap (λ (p : Step). p .instrument .startcount) (c .before .accepted .ensures) in
-    let p = c .before .before .before .before .before .before .before .before .before .before .pre in (
-      goes-accepted _ _ _ _ (c .before .before .before .before .before .before .before .enum-told .given .1) (counted _ _ _ _ _ _ _ _ _ _ b (c .before .accepted .ensures) (c .all-nodes .ensures .0)),
+    let s = ap (λ (p : Step). p .instrument .startcount) (c .before .accepted .ensures) in (
+      goes-accepted _ _ _ _ (enum-told′ .given .1) (counted _ _ _ _ _ _ _ _ _ _ b (c .before .accepted .ensures) (c .all-nodes .ensures .0)),
       fits-more _ _ _ _ _ _ _ (omega (arith, p .few-components)) (omega (arith, few, p .few-nodes)) (omega (arith, p .few-starts))
           (c .all-nodes .ensures .1),
     )

@@ -32,9 +32,10 @@ loop-holds c = (
 
 next-start-requires : tie.Need-next-start-requires Inv-loop μ-loop
 next-start-requires c κs =
+    let pre′ = c .before .before .before .pre in
     let f = c .before .loop .inv .2 in (
-      omega (arith, f .few-starts, c .loop-test .taken, c .before .before .before .pre .0),
-      fits-more _ _ _ _ _ _ _ (omega arith) (omega arith) (omega (arith, c .loop-test .taken, c .before .before .before .pre .0)) f,
+      omega (arith, f .few-starts, c .loop-test .taken, pre′ .0),
+      fits-more _ _ _ _ _ _ _ (omega arith) (omega arith) (omega (arith, c .loop-test .taken, pre′ .0)) f,
     )
 
 add-i : tie.Need-add-i Inv-loop μ-loop
@@ -45,15 +46,17 @@ loop-less c = omega arith
 
 loop-again : tie.Need-loop-again Inv-loop μ-loop
 loop-again c =
-    let f = c .before .before .loop .inv .2 in (
+    let loop′ = c .before .before .loop in
+    let f = loop′ .inv .2 in (
       omega arith,
-      goes-more _ addStart (c .before .before .loop .i) _ _ _ (c .before .before .loop .inv .1) (c .next-start .ensures .0),
+      goes-more _ addStart (loop′ .i) _ _ _ (loop′ .inv .1) (c .next-start .ensures .0),
       fits-more _ _ _ _ _ _ _ (omega arith) (omega arith) (omega (arith, f .few-starts)) (c .next-start .ensures .1),
     )
 
 returns : tie.Need-returns Inv-loop μ-loop
 returns c =
-    let e : c .before .loop .i ≡ c .before .before .before .args .count = omega arith in (
+    let args′ = c .before .before .before .args in
+    let e : c .before .loop .i ≡ args′ .count = omega arith in (
       goes-all _ addStart _ _ _ _ e (c .before .loop .inv .1),
       fits-more _ _ _ _ _ _ _ (omega arith) (omega arith) (omega arith) (c .before .loop .inv .2),
     )

@@ -27,7 +27,9 @@ cast-n : tie.Need-cast-n
 cast-n c = search needs
 
 slice-aggregate-start : tie.Need-slice-aggregate-start
-slice-aggregate-start c = sym (starts-long (c .before .before .before .before .before .before .before .before))
+slice-aggregate-start c =
+    let start′ = c .before .before .before .before .before .before .before .before in
+    sym (starts-long start′)
 
 cast-start : tie.Need-cast-start
 cast-start c = search needs
@@ -36,7 +38,10 @@ mul-start : tie.Need-mul-start
 mul-start c = search needs
 
 start-requires : tie.Need-start-requires
-start-requires c κs = (c .before .before .before .before .before .before .before .before .pre .1 .few-components, omega (arith, starts-long (c .before .before .before .before .before .before .before .before), c .before .before .before .before .before .before .before .before .pre .0, c .before .before .before .before .before .before .before .before .pre .1 .few-components))
+start-requires c κs =
+    let pre′ = c .before .before .before .before .before .before .before .before .pre in
+    let start′ = c .before .before .before .before .before .before .before .before in
+    (pre′ .1 .few-components, omega (arith, starts-long start′, pre′ .0, pre′ .1 .few-components))
 
 enum-known-r : tie.Need-enum-known-r
 enum-known-r c = search needs
@@ -54,34 +59,44 @@ accepted-requires : tie.Need-accepted-requires
 accepted-requires c κs = search needs
 
 returns : tie.Need-returns
-returns c = (goes-refused _ _ _ _ _ (c .before .before .outcome .given .1) (c .refused .ensures), fits-refused _ _ _ _ _ (c .refused .ensures))
+returns c =
+    let outcome′ = c .before .before .outcome in
+    (goes-refused _ _ _ _ _ (outcome′ .given .1) (c .refused .ensures), fits-refused _ _ _ _ _ (c .refused .ensures))
 
 returns-2 : tie.Need-returns-2
-returns-2 c = (
-  goes-accepted _ _ _ _ (c .before .before .before .before .before .before .before .before .before .before .before .enum-told .given .1)
-      (record {
-        laid =
-            λ k e. laid-refused _ _ _ (c .refused2 .ensures)
-            (add-start _ k e _ _ _ (c .before .before .before .before .before .before .before .before .before .before .before .before .before .before .pre .1 .few-components)
-            (was-fault (λ vs. done) _ _ (sym (ap moved (c .before .before .r .given .1)) ∙ c .before .before .before .before .before .start .ensures .0)));
-      }),
-  fits-refused _ _ _ _ _ (c .refused2 .ensures),
-)
+returns-2 c =
+    let enum-told′ = c .before .before .before .before .before .before .before .before .before .before .before .enum-told in
+    let pre′ = c .before .before .before .before .before .before .before .before .before .before .before .before .before .before .pre in
+    let r′ = c .before .before .r in
+    let start′ = c .before .before .before .before .before .start in (
+      goes-accepted _ _ _ _ (enum-told′ .given .1)
+          (record {
+            laid =
+                λ k e. laid-refused _ _ _ (c .refused2 .ensures)
+                (add-start _ k e _ _ _ (pre′ .1 .few-components)
+                (was-fault (λ vs. done) _ _ (sym (ap moved (r′ .given .1)) ∙ start′ .ensures .0)));
+          }),
+      fits-refused _ _ _ _ _ (c .refused2 .ensures),
+    )
 
 returns-3 : tie.Need-returns-3
 returns-3 c =
-    let w = was (λ vs. done) _ _ _ (sym (ap moved (c .before .before .next .given .1)) ∙ c .before .before .before .before .before .start .ensures .0) in (
-      goes-accepted _ _ _ _ (c .before .before .before .before .before .before .before .before .before .before .before .enum-told .given .1)
+    let next′ = c .before .before .next in
+    let start′ = c .before .before .before .before .before .start in
+    let enum-told′ = c .before .before .before .before .before .before .before .before .before .before .before .enum-told in
+    let pre′ = c .before .before .before .before .before .before .before .before .before .before .before .before .before .before .pre in
+    let w = was (λ vs. done) _ _ _ (sym (ap moved (next′ .given .1)) ∙ start′ .ensures .0) in (
+      goes-accepted _ _ _ _ (enum-told′ .given .1)
           (record {
             laid =
-                λ k e. laid-accepted _ _ _ _ _ (c .accepted .ensures) (start-laid _ k e (w .value) _ (c .before .before .before .before .before .start .ensures .1 .all _ _ (w .is)))
-                (add-start _ k e _ _ _ (c .before .before .before .before .before .before .before .before .before .before .before .before .before .before .pre .1 .few-components) (w .is));
+                λ k e. laid-accepted _ _ _ _ _ (c .accepted .ensures) (start-laid _ k e (w .value) _ (start′ .ensures .1 .all _ _ (w .is)))
+                (add-start _ k e _ _ _ (pre′ .1 .few-components) (w .is));
           }),
       fits-accepted _ _ _ _ _ _ (c .accepted .ensures)
           (record {
-            few-components = c .before .before .before .before .before .before .before .before .before .before .before .before .before .before .pre .1 .few-components;
-            few-signals = c .before .before .before .before .before .before .before .before .before .before .before .before .before .before .pre .1 .few-signals;
-            few-nodes = c .before .before .before .before .before .before .before .before .before .before .before .before .before .before .pre .1 .few-nodes;
+            few-components = pre′ .1 .few-components;
+            few-signals = pre′ .1 .few-signals;
+            few-nodes = pre′ .1 .few-nodes;
             few-starts = omega arith;
           }),
     )

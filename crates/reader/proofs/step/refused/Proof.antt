@@ -2,9 +2,6 @@ use mathlib.Core.Path.{refl}
 use borrow.Author.Needs.{needs}
 use Rattle.reader.proofs.step.refused.Statement.{statement}
 use Rattle.reader.proofs.step.refused.Tie as tie
-use Rattle.reader.proofs.step.refused.Reads as reads
-use Rattle.reader.proofs.step.refused.Lts as lts
-use Rattle.instrument.proofs.Instrument.empty.Reads as empty-reads
 
 empty-requires : tie.Need-empty-requires
 empty-requires c κs = search needs
@@ -13,4 +10,8 @@ returns : tie.Need-returns
 returns c = rw (c .empty .ensures) refl
 
 pub refused-spec : {M : Type 1} → statement M
-refused-spec = tie.close (tie.spec empty-requires returns)
+refused-spec =
+    tie.close
+    (tie.spec
+    empty-requires
+    returns)
