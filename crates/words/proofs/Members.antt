@@ -363,9 +363,11 @@ module _ (k w t : ℕ) where
   pub less-out : (u : ℕ) → T (has rest u) → (t ≢ u) × T (has w u)
   less-out u h =
       let (p, q) = both (has w u) (has (complement k (insert 0 t)) u) (subst T (has-intersection w (complement k (insert 0 t)) u) h) in
-      let l : u < k = has-lt k (complement k (insert 0 t)) u (complement-lt k (insert 0 t)) q in
-      (λ e.
-      T-not (has (insert 0 t) u) (subst T (has-complement k (insert 0 t) u l) q) (subst (λ u. T (has (insert 0 t) u)) e (has-insert 0 t)), p)
+      let l : u < k = has-lt k (complement k (insert 0 t)) u (complement-lt k (insert 0 t)) q in (
+        λ e.
+            T-not (has (insert 0 t) u) (subst T (has-complement k (insert 0 t) u l) q) (subst (λ u. T (has (insert 0 t) u)) e (has-insert 0 t)),
+        p,
+      )
     where
       both : (a b : Bool) → T (a && b) → T a × T b
       both true b h = (tt, h)
