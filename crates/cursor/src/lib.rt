@@ -25,6 +25,30 @@ pub enum Refusal {
     Clash,
 }
 
+impl Refusal {
+    // Its number in document 01's table.
+    pub fn number(self) -> u32
+        ensures { λ r. ⌜ r ≡ number self ⌝ }
+    {
+        match self {
+            Refusal::Ended => 1,
+            Refusal::Form => 2,
+            Refusal::Range => 3,
+            Refusal::Order => 4,
+            Refusal::Driven => 5,
+            Refusal::Bits => 6,
+            Refusal::Formula => 7,
+            Refusal::Undriven => 8,
+            Refusal::Start => 9,
+            Refusal::Trailing => 10,
+            Refusal::FullSize => 11,
+            Refusal::MergedSize => 12,
+            Refusal::Short => 13,
+            Refusal::Clash => 14,
+        }
+    }
+}
+
 // A place in the file.
 pub struct Cursor {
     pub at: usize,
