@@ -10,30 +10,33 @@ use crate::reader::read;
 use crate::refusal::Refusal;
 
 pub fn run(words: &[&str]) -> Outcome {
+    reply(words, || standard_input(limits::BYTES_READ as u64))
+}
+
+/// What is printed for a question about the file.
+pub fn reply(words: &[&str], file: impl Fn() -> Vec<u8>) -> Outcome {
+    let answer = |query: &dyn Fn(&Queries) -> Result<String, Refusal>| {
+        text_or_refusal(Queries::of(&file()).and_then(|queries| query(&queries)))
+    };
     match words {
         ["lookup", a, b, c, d] => {
             let asked = [number(a)?, number(b)?, number(c)?, number(d)?];
-            answer(|queries| queries.lookup(asked).map(|truth| format!("{truth}\n")))
+            answer(&|queries| queries.lookup(asked).map(|truth| format!("{truth}\n")))
         }
         ["stretch", c] => {
             let component = number(c)?;
-            answer(|queries| queries.stretch(component).map(|part| hexadecimal(part) + "\n"))
+            answer(&|queries| queries.stretch(component).map(|part| hexadecimal(part) + "\n"))
         }
-        ["full"] => answer(|queries| queries.full().map(|words| decimal(&words) + "\n")),
-        ["merged"] => answer(|queries| queries.merged().map(|words| decimal(&words) + "\n")),
-        ["marks"] => answer(|queries| Ok(mark_lines(queries).join("\n") + "\n")),
-        ["classes"] => answer(|queries| Ok(class_lines(queries).join("\n") + "\n")),
-        ["verdict"] => answer(|queries| queries.verdict().map(|verdict| verdict.text() + "\n")),
-        ["listing"] => answer(|queries| queries.listing()),
+        ["full"] => answer(&|queries| queries.full().map(|words| decimal(&words) + "\n")),
+        ["merged"] => answer(&|queries| queries.merged().map(|words| decimal(&words) + "\n")),
+        ["marks"] => answer(&|queries| Ok(mark_lines(queries).join("\n") + "\n")),
+        ["classes"] => answer(&|queries| Ok(class_lines(queries).join("\n") + "\n")),
+        ["verdict"] => answer(&|queries| queries.verdict().map(|verdict| verdict.text() + "\n")),
+        ["listing"] => answer(&|queries| queries.listing()),
         ["refusal"] => text_or_refusal(read(&file()).map(|_| "accepted\n".to_string())),
         ["to-text"] => text_or_refusal(read(&file()).map(|accepted| to_text(&accepted.instrument))),
         _ => Err(usage()),
     }
-}
-
-/// The file on standard input, up to 16,385 bytes.
-fn file() -> Vec<u8> {
-    standard_input(limits::BYTES_READ as u64)
 }
 
 /// The file of a text.
@@ -43,11 +46,6 @@ pub fn to_file(text: &[u8]) -> Outcome {
         Ok(instrument) => Ok(write(&instrument)),
         Err(error) => Err((error.to_string(), 1)),
     }
-}
-
-/// Answers a query on the file on standard input.
-fn answer(query: impl Fn(&Queries) -> Result<String, Refusal>) -> Outcome {
-    text_or_refusal(Queries::of(&file()).and_then(|queries| query(&queries)))
 }
 
 fn text_or_refusal(result: Result<String, Refusal>) -> Outcome {

@@ -1,6 +1,7 @@
 //! The commands of README.md. A refusal is an answer and ends with exit code 0;
 //! a violation, a difference or a bad text with 1; a bad command with 2.
 
+mod ask;
 mod development;
 pub mod file_queries;
 
@@ -11,7 +12,8 @@ const USAGE: &str = "usage: second COMMAND
   full | merged | marks | classes | lookup A B C D | verdict | stretch C | listing | refusal
   to-file | to-text
   self-check [FIRST] [COUNT] | wrong-readings [COUNT]
-  store [FOLDER] | compare [FOLDER]";
+  store [FOLDER] | compare [FOLDER]
+  ask PROGRAM QUESTION..";
 
 /// What a command prints on standard output, or a message and an exit code.
 pub type Outcome = Result<Vec<u8>, (String, u8)>;
@@ -20,6 +22,7 @@ pub fn run(arguments: &[String]) -> ExitCode {
     let words: Vec<&str> = arguments.iter().map(String::as_str).collect();
     let outcome = match words.as_slice() {
         ["self-check" | "wrong-readings" | "store" | "compare", ..] => development::run(&words),
+        ["ask", program, kinds @ ..] => ask::run(program, kinds),
         ["to-file"] => file_queries::to_file(&standard_input(u64::MAX)),
         [_, ..] => file_queries::run(&words),
         [] => Err((USAGE.to_string(), 2)),
