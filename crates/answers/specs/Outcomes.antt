@@ -1,0 +1,91 @@
+-- What each question is answered, from the bytes of a file: the faults of the file come first, then an asked state, then numbers 11 and 12, then
+-- 13 (document 01, Refused).
+use mathlib.Core.Bool.{Bool, true, false, _&&_}
+use mathlib.Core.List.{List}
+use lib.Dec.{leb, ltb, eqb}
+use lib.ListN.{length, getD}
+use Prim.Native.Nat.{ℕ}
+use Rattle.meaning.specs.Instrument.{Instrument, components, table, rootFormula}
+use Rattle.meaning.specs.Combination.{high}
+use Rattle.meaning.specs.View.{wholeWords}
+use Rattle.meaning.specs.Verdict.{Answer, Verdict, Stage, judged, clash, oversized}
+use Rattle.meaning.specs.File.Parser.{Got, found, fault}
+use Rattle.meaning.specs.File.Number.{choose}
+use Rattle.meaning.specs.File.Grammar.{Contents, instrumentOf, readFile}
+use Rattle.meaning.specs.Reference.Tests.{allBelow}
+use Rattle.meaning.specs.Reference.Merged.{lookupB}
+use Rattle.meaning.specs.Reference.Verdict.{verdictB}
+use Rattle.meaning.specs.Reference.Answers.{Outcome, refused, entries, fitting, fullCount, fullWords, markWords, classNames, classesAt, mergedSize, mergedWords}
+
+-- the largest combination that is built
+abbrev pub mostStates : ℕ
+mostStates = 4096
+
+-- the outcome for the instrument of an accepted file, else the number of the file's first fault
+abbrev pub after : Got Contents → (Instrument → Outcome) → Outcome
+after (found c end) f = f (instrumentOf c)
+after (fault r) f = refused r
+
+-- an outcome that a combination of so many states allows, else the number of its refusal
+abbrev pub within : ℕ → ℕ → Outcome → Outcome
+within size r o = choose (leb size mostStates) o (refused r)
+
+-- the questions that lend a buffer, with so much room
+unfoldable pub fullOutcome : List ℕ → ℕ → Outcome
+fullOutcome file room = after (readFile file) (λ I. within (fullCount I) 11 (fitting room (fullWords I)))
+
+unfoldable pub markOutcome : List ℕ → ℕ → Outcome
+markOutcome file room = after (readFile file) (λ I. fitting room (markWords I))
+
+unfoldable pub classOutcome : List ℕ → ℕ → Outcome
+classOutcome file room = after (readFile file) (λ I. fitting room (classNames I))
+
+unfoldable pub mergedOutcome : List ℕ → ℕ → Outcome
+mergedOutcome file room = after (readFile file) (λ I. within (mergedSize I) 12 (fitting room (mergedWords I)))
+
+-- how many entries are written, 0 where nothing is
+abbrev pub outcomeCount : Outcome → ℕ
+outcomeCount (refused r) = 0
+outcomeCount (entries vs) = length vs
+
+-- the answer to a question without a buffer: a refusal's number, or a value
+pub data Reply (X : Type 0) : Type 0 where
+  denied : ℕ → Reply X
+  given : X → Reply X
+
+abbrev pub replyAfter : {X : Type 0} → Got Contents → (Instrument → Reply X) → Reply X
+replyAfter (found c end) f = f (instrumentOf c)
+replyAfter (fault r) f = denied r
+
+-- four state numbers are a combined state: each in its component, and 0 past the last
+abbrev pub asksState : Instrument → List ℕ → Bool
+asksState I s = allBelow 4 (λ i. choose (ltb i (components I)) (ltb (getD s i 0) (table I i .states)) (eqb (getD s i 0) 0))
+
+-- the lookup: 9 for a state that is none, then 12, then the root's bit at the merged state
+abbrev pub lookedUp : Instrument → List ℕ → Bool
+lookedUp I s =
+    lookupB (components I) (table I) (classesAt I) (λ i. wholeWords (table I i)) (high (components I) (table I)) (I .signals) (rootFormula I)
+    (λ i. getD s i 0)
+
+unfoldable pub lookupReply : List ℕ → List ℕ → Reply Bool
+lookupReply file s =
+    replyAfter (readFile file) (λ I.
+    choose (asksState I s) (choose (leb (mergedSize I) mostStates) (given (lookedUp I s)) (denied 12)) (denied 9))
+
+-- the verdict with its stage; numbers 14 and 12
+pub record Judgement : Type 0 where
+  pub verdict : Verdict
+  pub stage : Stage
+
+abbrev pub judgement : Answer → Reply Judgement
+judgement (judged v g) = given (record { verdict = v; stage = g })
+judgement clash = denied 14
+judgement oversized = denied 12
+
+abbrev pub verdictOf : Instrument → Answer
+verdictOf I =
+    verdictB (components I) (table I) (λ i. wholeWords (table I i)) (rootFormula I) mostStates (I .signals) (high (components I) (table I))
+    (λ start i. getD start i 0) (I .starts)
+
+unfoldable pub verdictReply : List ℕ → Reply Judgement
+verdictReply file = replyAfter (readFile file) (λ I. judgement (verdictOf I))
