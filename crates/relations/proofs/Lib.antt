@@ -3,3 +3,5 @@ pub mod Signals
 pub mod NodeRelations
 -- the lists of a component
 pub mod Parts
+-- what the relations mean
+pub mod Meaning

@@ -1,11 +1,11 @@
 -- The rule that a node's kind picks, applied to the relations and marks of its operands, gives the relation of its formula.
-use mathlib.Core.Path.{_≡_, refl, sym, ap, _∙_}
+use mathlib.Core.Path.{_≡_, refl, ap, _∙_}
 use mathlib.Core.List.{List, [], _∷_}
 use lib.ListN.{length, getD, set, replicate, length-replicate}
 use lib.Seq.{sets}
 use native.Mathlib.Nat.{zero-add, mul-comm}
 use native.Mathlib.Omega.{arith}
-use Prim.Native.Nat.{ℕ, suc, _+_, _-_, _*_, _^_, _≤_, _<_}
+use Prim.Native.Nat.{ℕ, suc, _+_, _-_, _^_, _≤_, _<_}
 use Rattle.meaning.specs.Formula.{Formula}
 use Rattle.meaning.specs.Nodes.{Node, top, atom, neg, or, ex, eg, eu, Operand, of-neg, of-or-l, of-or-r, of-ex, of-eg, of-eu-l, of-eu-r}
 use Rattle.meaning.specs.Nodes.{nodeAt, formulaOf, formulaAt}
@@ -140,7 +140,8 @@ module _ (states inputs : ℕ) (outputs outs succ compared : List ℕ) (nodes : 
         reached = omega arith;
         each =
             λ ins q ns l p.
-            singles-more (λ k. formulaRelation (tableBy ins) (comparing compared (tableBy ins)) (formulaAt ns k)) (replicate 24 noRelation) count k r v h
+            singles-more (λ k. formulaRelation (tableBy ins) (comparing compared (tableBy ins)) (formulaAt ns k))
+            (replicate 24 noRelation) count k r v h
             (rw (← q) at e ∙ node-formula states m ins outputs outs succ compared nodes count ns l marks p k r h (s .each ins q ns l p))
             (s .each ins q ns l p);
       }

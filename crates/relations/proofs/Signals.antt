@@ -3,11 +3,10 @@
 use mathlib.Core.Path.{_≡_, refl, sym, ap, ap₂, _∙_}
 use mathlib.Core.Bool.{Bool, true, false, not, _&&_, _||_, Bool·beq}
 use mathlib.Core.List.{List, []}
-use lib.Dec.{T}
 use lib.ListN.{length, getD}
 use native.Mathlib.Omega.{arith}
 use Prim.Native.Nat.{ℕ, _≤_, _<_}
-use Rattle.words.specs.Sets.{has, built}
+use Rattle.words.specs.Sets.{has}
 use Rattle.words.proofs.Built.{has-built}
 use Rattle.meaning.specs.Tests.{listed}
 use Rattle.meaning.specs.Table.{Table, fromWords, owns, drives}

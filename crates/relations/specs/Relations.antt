@@ -58,7 +58,8 @@ module _ (states inputs : ℕ) (outputs outs succ compared : List ℕ) where
   -- the relation of a node, from the marks of all nodes and the relations of the nodes so far
   abbrev pub ruleRelation : Node → Mark → List Mark → List (List ℕ) → List ℕ
   ruleRelation node mark marks relations =
-      kindRelation (node .kind) (node .left) mark (getD marks (node .left) noMark) (getD relations (node .left) []) (getD relations (node .right) [])
+      kindRelation (node .kind) (node .left) mark (getD marks (node .left) noMark) (getD relations (node .left) [])
+      (getD relations (node .right) [])
 
 -- marks that are those of a formula's nodes
 pub record Marked (t : Table) (κ : View ℕ) (ns : List (formula.Node ℕ)) (marks : List Mark) : Type 0 where

@@ -50,7 +50,9 @@ cast-inputs : tie.Need-cast-inputs
 cast-inputs c = search needs
 
 shl-width : tie.Need-shl-width
-shl-width c = let s = c .before .before in omega (arith, inputs-bound (s .args .t1) (s .pre .0 .0) (s .pre .0 .1 .describes) (s .args .c) (s .pre .1))
+shl-width c =
+    let s = c .before .before in
+    omega (arith, inputs-bound (s .args .t1) (s .pre .0 .0) (s .pre .0 .1 .describes) (s .args .c) (s .pre .1))
 
 mul-from : tie.Need-mul-from
 mul-from c = search needs
@@ -80,7 +82,9 @@ cast-high : tie.Need-cast-high
 cast-high c = search needs
 
 add-high : tie.Need-add-high
-add-high c = let s = c .before .before .before .before .before .before .before in omega (arith, few s, outputs-bound (s .args .t1) (s .pre .0 .0) (s .pre .0 .1 .describes) (s .args .c) (s .pre .1))
+add-high c =
+    let s = c .before .before .before .before .before .before .before in
+    omega (arith, few s, outputs-bound (s .args .t1) (s .pre .0 .0) (s .pre .0 .1 .describes) (s .args .c) (s .pre .1))
 
 mul-formula-relations : tie.Need-mul-formula-relations
 mul-formula-relations c = search needs
@@ -92,7 +96,9 @@ part-formula-relations-start : tie.Need-part-formula-relations-start
 part-formula-relations-start c = search needs
 
 part-formula-relations-end : tie.Need-part-formula-relations-end
-part-formula-relations-end c = let s = c .before .before .before .before .before .before .before .before .before in parts.nexts-end (s .args .t1) (s .pre .0 .0) (s .pre .0 .1 .describes) (s .args .c) (s .pre .1)
+part-formula-relations-end c =
+    let s = c .before .before .before .before .before .before .before .before .before in
+    parts.nexts-end (s .args .t1) (s .pre .0 .0) (s .pre .0 .1 .describes) (s .args .c) (s .pre .1)
 
 mul-formula-relations-2 : tie.Need-mul-formula-relations-2
 mul-formula-relations-2 c = search needs
@@ -116,7 +122,9 @@ part-formula-relations-start-3 : tie.Need-part-formula-relations-start-3
 part-formula-relations-start-3 c = search needs
 
 part-formula-relations-end-3 : tie.Need-part-formula-relations-end-3
-part-formula-relations-end-3 c = let s = c .before .before .before .before .before .before .before .before .before .before .before .before .before in parts.outputs-end (s .args .t1) (s .pre .0 .0) (s .pre .0 .1 .describes) (s .args .c) (s .pre .1)
+part-formula-relations-end-3 c =
+    let s = c .before .before .before .before .before .before .before .before .before .before .before .before .before in
+    parts.outputs-end (s .args .t1) (s .pre .0 .0) (s .pre .0 .1 .describes) (s .args .c) (s .pre .1)
 
 mul-formula-relations-4 : tie.Need-mul-formula-relations-4
 mul-formula-relations-4 c = search needs
@@ -128,7 +136,8 @@ part-formula-relations-start-4 : tie.Need-part-formula-relations-start-4
 part-formula-relations-start-4 c = search needs
 
 part-formula-relations-end-4 : tie.Need-part-formula-relations-end-4
-part-formula-relations-end-4 c = outs-end (c .before .before .before .before .before .before .before .before .before .before .before .before .before .before .before)
+part-formula-relations-end-4 c =
+    outs-end (c .before .before .before .before .before .before .before .before .before .before .before .before .before .before .before)
 
 cast-formula-relations : tie.Need-cast-formula-relations
 cast-formula-relations c = search needs
@@ -137,7 +146,8 @@ formula-relations-requires : tie.Need-formula-relations-requires
 formula-relations-requires c κs =
     let s = c .before .before .before .before .before .before .before .before .before .before .before .before .before .before .before .before in
     let lists =
-    parts-lists (s .args .t1) (s .pre .0 .0) (s .pre .0 .1 .describes) (s .args .c) (s .pre .1) _ _ _ (parts.cut _ _) (parts.cut _ _) (words-cut s) in (
+    parts-lists (s .args .t1) (s .pre .0 .0) (s .pre .0 .1 .describes) (s .args .c)
+    (s .pre .1) _ _ _ (parts.cut _ _) (parts.cut _ _) (words-cut s) in (
       lists,
       lists .outCount,
       (s .pre .0 .0 .nodes, listing (s .args .t1) (s .pre .0 .0) (s .pre .0 .1 .describes)),
@@ -151,7 +161,8 @@ returns c =
     let t = s .args .t1 in
     parts.parts-related _ _ (parts-table t k d (s .args .c) (s .pre .1) _ _ _ (parts.cut _ _) (parts.cut _ _) (words-cut s)) (k .nodes)
     (d .promised .nodeCount .1) _ _
-    (c .formula-relations .ensures (componentAt k (s .args .c) .inputs) (sym (inputcounts-at t k d (s .args .c))) (k .nodes) (listing t k d))
+    (c .formula-relations .ensures (componentAt k (s .args .c) .inputs) (sym (inputcounts-at t k d
+    (s .args .c))) (k .nodes) (listing t k d))
     (m .marked)
 
 pub component-relations-spec : {M : Type 1} → statement M

@@ -1,4 +1,3 @@
-use lib.ListN.{length}
 use native.Mathlib.Omega.{arith}
 use Prim.Native.Nat.{_-_, _≤_}
 use Rattle.marks.proofs.NodeMarks.{operands-listed}
@@ -8,7 +7,8 @@ use Rattle.relations.proofs.formula_relations.Statement.{statement}
 use Rattle.relations.proofs.formula_relations.Tie as tie
 
 abbrev Inv-loop : tie.InvT-loop
-Inv-loop succ outs outputs compared states inputs count nodes marks relations₀ k₀ relations k = Relating states inputs outputs outs succ compared nodes count marks k relations
+Inv-loop succ outs outputs compared states inputs count nodes marks relations₀ k₀ relations k =
+    Relating states inputs outputs outs succ compared nodes count marks k relations
 
 abbrev μ-loop : tie.MeasureT-loop
 μ-loop succ outs outputs compared states inputs count nodes marks relations₀ k₀ relations k = count - k
@@ -33,7 +33,9 @@ array-copy-out-node-relation-2 : tie.Need-array-copy-out-node-relation-2 Inv-loo
 array-copy-out-node-relation-2 c = omega (arith, room (c .before .before .before .before .before .before .before))
 
 node-relation-requires : tie.Need-node-relation-requires Inv-loop μ-loop
-node-relation-requires c κs = let p = c .before .before .before .before .before .before .before .before .pre in (p .0, p .1, operands-listed _ _ (p .2 .0) (p .2 .1) (c .before .before .before .loop .k) (c .before .before .loop-test .taken))
+node-relation-requires c κs =
+    let p = c .before .before .before .before .before .before .before .before .pre in
+    (p .0, p .1, operands-listed _ _ (p .2 .0) (p .2 .1) (c .before .before .before .loop .k) (c .before .before .loop-test .taken))
 
 mul-relations : tie.Need-mul-relations Inv-loop μ-loop
 mul-relations c = omega (arith, room (c .before .before .before .before .before .before .before .before .before))
@@ -50,7 +52,8 @@ loop-less c = omega arith
 loop-again : tie.Need-loop-again Inv-loop μ-loop
 loop-again c =
     let l = c .before .before .before .before in
-    relating-more _ _ _ _ _ _ _ _ _ (l .before .before .before .before .before .pre .0 .steps .most-states) (l .loop .k) (l .loop .relations) _ (c .before .before .before .loop-test .taken)
+    relating-more _ _ _ _ _ _ _ _ _ (l .before .before .before .before .before .pre .0 .steps .most-states) (l .loop .k)
+    (l .loop .relations) _ (c .before .before .before .loop-test .taken)
     (c .node-relation .ensures) (l .loop .inv)
 
 returns : tie.Need-returns Inv-loop μ-loop

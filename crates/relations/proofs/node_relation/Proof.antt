@@ -46,23 +46,28 @@ mul-under c = search needs
 array-copy-out-under : tie.Need-array-copy-out-under
 array-copy-out-under c = c .before .before .before .before .before .before .before .pre .2 .left (omega (arith, c .match .keys5))
 
-mul-rel-ex : tie.Need-mul-rel-ex
-mul-rel-ex c = search needs
+mul-ex-relation : tie.Need-mul-ex-relation
+mul-ex-relation c = search needs
 
-array-copy-out-rel-ex : tie.Need-array-copy-out-rel-ex
-array-copy-out-rel-ex c = c .before .before .before .before .before .before .before .before .pre .2 .left (omega (arith, c .before .match .keys5))
+array-copy-out-ex-relation : tie.Need-array-copy-out-ex-relation
+array-copy-out-ex-relation c =
+    c .before .before .before .before .before .before .before .before .pre .2 .left (omega (arith, c .before .match .keys5))
 
-rel-ex-requires : tie.Need-rel-ex-requires
-rel-ex-requires c κs = let p = c .before .before .before .before .before .before .before .before .before .pre in (steps-lent _ _ _ (p .0 .steps), p .1)
+ex-relation-requires : tie.Need-ex-relation-requires
+ex-relation-requires c κs =
+    let p = c .before .before .before .before .before .before .before .before .before .pre in
+    (steps-lent _ _ _ (p .0 .steps), p .1)
 
-mul-rel-fixed : tie.Need-mul-rel-fixed
-mul-rel-fixed c = search needs
+mul-fixed-relation : tie.Need-mul-fixed-relation
+mul-fixed-relation c = search needs
 
-array-copy-out-rel-fixed : tie.Need-array-copy-out-rel-fixed
-array-copy-out-rel-fixed c = c .before .before .before .before .before .before .before .pre .2 .left (omega (arith, c .match .keys6))
+array-copy-out-fixed-relation : tie.Need-array-copy-out-fixed-relation
+array-copy-out-fixed-relation c = c .before .before .before .before .before .before .before .pre .2 .left (omega (arith, c .match .keys6))
 
-rel-fixed-requires : tie.Need-rel-fixed-requires
-rel-fixed-requires c κs = let p = c .before .before .before .before .before .before .before .before .pre in (steps-lent _ _ _ (p .0 .steps), p .1)
+fixed-relation-requires : tie.Need-fixed-relation-requires
+fixed-relation-requires c κs =
+    let p = c .before .before .before .before .before .before .before .before .pre in
+    (steps-lent _ _ _ (p .0 .steps), p .1)
 
 mul-rel-both-3 : tie.Need-mul-rel-both-3
 mul-rel-both-3 c = search needs
@@ -79,8 +84,10 @@ array-copy-out-rel-both-4 c = c .before .before .before .before .before .before 
 rel-both-requires-2 : tie.Need-rel-both-requires-2
 rel-both-requires-2 c κs = search needs
 
-rel-fixed-requires-2 : tie.Need-rel-fixed-requires-2
-rel-fixed-requires-2 c κs = let p = c .before .before .before .before .before .before .before .before .before .before .pre in (steps-lent _ _ _ (p .0 .steps), p .1)
+fixed-relation-requires-2 : tie.Need-fixed-relation-requires-2
+fixed-relation-requires-2 c κs =
+    let p = c .before .before .before .before .before .before .before .before .before .before .pre in
+    (steps-lent _ _ _ (p .0 .steps), p .1)
 
 rel-all-requires-2 : tie.Need-rel-all-requires-2
 rel-all-requires-2 c κs = search needs
@@ -98,13 +105,13 @@ returns-4 : tie.Need-returns-4
 returns-4 c = rw (c .before .before .before .match .keys4) (c .rel-both .ensures)
 
 returns-5 : tie.Need-returns-5
-returns-5 c = rw (c .before .before .before .match .keys5) (c .rel-ex .ensures)
+returns-5 c = rw (c .before .before .before .match .keys5) (c .ex-relation .ensures)
 
 returns-6 : tie.Need-returns-6
-returns-6 c = rw (c .before .before .match .keys6) (c .rel-fixed .ensures)
+returns-6 c = rw (c .before .before .match .keys6) (c .fixed-relation .ensures)
 
 returns-7 : tie.Need-returns-7
-returns-7 c = rw (c .before .before .before .before .match .keys7, ← c .before .rel-both2 .ensures) (c .rel-fixed2 .ensures)
+returns-7 c = rw (c .before .before .before .before .match .keys7, ← c .before .rel-both2 .ensures) (c .fixed-relation2 .ensures)
 
 returns-8 : tie.Need-returns-8
 returns-8 c =
@@ -131,18 +138,18 @@ node-relation-spec =
     rel-both-requires
     mul-under
     array-copy-out-under
-    mul-rel-ex
-    array-copy-out-rel-ex
-    rel-ex-requires
-    mul-rel-fixed
-    array-copy-out-rel-fixed
-    rel-fixed-requires
+    mul-ex-relation
+    array-copy-out-ex-relation
+    ex-relation-requires
+    mul-fixed-relation
+    array-copy-out-fixed-relation
+    fixed-relation-requires
     mul-rel-both-3
     array-copy-out-rel-both-3
     mul-rel-both-4
     array-copy-out-rel-both-4
     rel-both-requires-2
-    rel-fixed-requires-2
+    fixed-relation-requires-2
     rel-all-requires-2
     returns
     returns-2
