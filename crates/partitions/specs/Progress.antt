@@ -1,0 +1,33 @@
+-- How far the loops over the components are.
+use mathlib.Core.Path.{_≡_}
+use mathlib.Core.List.{List, [], _∷_}
+use lib.ListN.{length, getD, replicate}
+use Prim.Native.Nat.{ℕ, _≤_}
+use Rattle.meaning.specs.File.Grammar.{Contents, instrumentOf, limits}
+use Rattle.meaning.specs.Reference.Answers.{listBelow, joinBelow}
+use Rattle.instrument.specs.declared.Instrument.{Instrument}
+use Rattle.marks.specs.declared.Mark.{Mark}
+use Rattle.marks.specs.Written.{Written}
+use Rattle.classes.specs.Names.{classCount}
+use Rattle.partitions.specs.Classes.{componentClasses, MarkedInstrument}
+
+-- the first so many names of a row
+abbrev pub namesIn : List ℕ → ℕ → List ℕ
+namesIn row states = listBelow states (λ x. getD row x 0)
+
+-- the classes of the first i components are there
+pub record Naming (t : Instrument) (marks : List (List Mark)) (i : ℕ) (names : List (List ℕ)) : Type 0 where
+  pub reached : i ≤ t .components
+  pub each : (k : Contents) → MarkedInstrument t marks k
+      → Written (replicate (limits .components) (replicate (limits .states) 0)) 0 (t .components)
+      (λ i. componentClasses (instrumentOf k) i ∷ []) i names
+
+-- the names of the first i of n components are written, one component after the other, and the next place is known
+pub record Writing (n : ℕ) (states : List ℕ) (names : List (List ℕ)) (out₀ : List ℕ) (i place : ℕ) (out : List ℕ) : Type 0 where
+  pub written : Written out₀ 0 n (λ i. namesIn (getD names i []) (getD states i 0)) i out
+  pub next : place ≡ length (joinBelow i (λ i. namesIn (getD names i []) (getD states i 0)))
+
+-- the classes of the first i of n components are counted
+abbrev pub Counting : ℕ → List ℕ → List (List ℕ) → ℕ → List ℕ → Type 0
+Counting n states names i counts =
+    Written (replicate (limits .components) 1) 0 n (λ i. classCount (getD names i []) (getD states i 0) ∷ []) i counts

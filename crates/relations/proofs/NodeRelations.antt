@@ -1,0 +1,155 @@
+-- The rule that a node's kind picks, applied to the relations and marks of its operands, gives the relation of its formula.
+use mathlib.Core.Path.{_≡_, refl, ap, _∙_}
+use mathlib.Core.List.{List, [], _∷_}
+use lib.ListN.{length, getD, set, replicate, length-replicate}
+use lib.Seq.{sets}
+use native.Mathlib.Nat.{zero-add, mul-comm}
+use native.Mathlib.Omega.{arith}
+use Prim.Native.Nat.{ℕ, suc, _+_, _-_, _^_, _≤_, _<_}
+use Rattle.meaning.specs.Formula.{Formula}
+use Rattle.meaning.specs.Nodes.{Node, top, atom, neg, or, ex, eg, eu, Operand, of-neg, of-or-l, of-or-r, of-ex, of-eg, of-eu-l, of-eu-r}
+use Rattle.meaning.specs.Nodes.{nodeAt, formulaOf, formulaAt}
+use Rattle.meaning.specs.Table.{Table, fromWords}
+use Rattle.meaning.specs.View.{View}
+use Rattle.meaning.specs.Reference.Answers.{listBelow}
+use Rattle.meaning.proofs.Basic.Entries.{list-length, list-at}
+use Rattle.meaning.proofs.File.Nodes.{formula-at}
+use Rattle.instrument.specs.declared.Node as stored
+use Rattle.instrument.specs.Layout.{nodeOf}
+use Rattle.instrument.proofs.Rows.{sets-in}
+use Rattle.marks.specs.declared.Mark.{Mark}
+use Rattle.marks.specs.Component as marked
+use Rattle.marks.specs.Formulas.{formulaMark}
+use Rattle.marks.specs.NodeMarks.{noMark, Listing}
+use Rattle.marks.specs.Written.{Written}
+use Rattle.marks.proofs.Written.{written-start, written-end, join-list, singles-more}
+use Rattle.classes.specs.Component.{Steps}
+use Rattle.classes.specs.Related.{relatedAll}
+use Rattle.classes.proofs.Formulas.{top-rows, or-rows, ex-rows, eg-rows, eu-rows}
+use Rattle.relations.specs.Relations.{formulaRelation, signalRelation, comparing, noRelation, kindRelation, ruleRelation}
+use Rattle.relations.specs.Relations.{Marked, listRelations, RelatedNodes, Relating}
+
+-- the lent steps are as the rules of marks and as those of classes require them
+pub steps-lent : (states inputs : ℕ) (succ : List ℕ) → marked.Steps states inputs succ → Steps states inputs succ
+steps-lent states inputs succ s =
+    record {
+      some = s .some;
+      most = s .most-states;
+      few = s .most-inputs;
+      long = omega (arith, s .room, mul-comm states (2 ^ inputs));
+      small = s .narrow;
+    }
+
+-- no known kind
+pub kind-unknown : (states inputs : ℕ) (outputs outs succ compared : List ℕ) (kind w : ℕ) (mark under : Mark) (a b : List ℕ) → 7 ≤ kind
+    → kindRelation states inputs outputs outs succ compared kind w mark under a b ≡ relatedAll states
+kind-unknown states inputs outputs outs succ compared kind w mark under a b h =
+    let e : kind ≡ suc (suc (suc (suc (suc (suc (suc (kind - 7))))))) = omega arith in
+    ap (λ k. kindRelation states inputs outputs outs succ compared k w mark under a b) e
+
+-- a list stored at the front of another that has room for it, member by member
+pub front-at : {X : Type 0} (g : ℕ → X) (d : X) (l₀ : List X) (k : ℕ) → k ≤ length l₀ → (j : ℕ) → j < k
+    → getD (sets l₀ 0 (listBelow k g)) j d ≡ g j
+front-at g d l₀ k h j p =
+    let e : 0 + j ≡ j = zero-add j in
+    rw e at (sets-in d (listBelow k g) l₀ 0 j (omega (arith, list-length k g)) (omega (arith, list-length k g))) ∙ list-at k g d j p
+
+pub stored-at : {X : Type 0} (g : ℕ → X) (d : X) (l₀ : List X) (n k : ℕ) (l : List X) → k ≤ length l₀
+    → Written l₀ 0 n (λ k. g k ∷ []) k l → (j : ℕ) → j < k → getD l j d ≡ g j
+stored-at g d l₀ n k l h w j p =
+    ap (λ l. getD l j d) (w .same ∙ ap (λ vs. sets l₀ 0 vs) (join-list g k)) ∙ front-at g d l₀ k h j p
+
+-- the relation of a node among those of all nodes
+pub relation-at : (t : Table) (κ : View ℕ) (ns : List (Node ℕ)) → length ns ≤ 24 → (k : ℕ) → k < length ns
+    → getD (listRelations t κ ns) k [] ≡ formulaRelation t κ (formulaAt ns k)
+unfolding listRelations
+relation-at t κ ns short k l =
+    front-at (λ k. formulaRelation t κ (formulaAt ns k)) [] (replicate 24 noRelation) (length ns)
+    (omega (arith, length-replicate 24 noRelation)) k l
+
+module _ (n : ℕ) (m : n ≤ 32) (ins outputs outs succ compared : List ℕ) where
+  abbrev t : Table
+  t = fromWords n ins outputs outs succ
+
+  abbrev κ : View ℕ
+  κ = comparing compared t
+
+  abbrev rowsOf : Formula ℕ → List ℕ
+  rowsOf φ = formulaRelation t κ φ
+
+  abbrev markOf : Formula ℕ → Mark
+  markOf φ = formulaMark t κ φ
+
+  same : (x : ℕ) → x < n → getD compared x 0 ≡ κ .compared x
+  same x l = refl
+
+  -- one node: at are the relations of its operands, marks their marks
+  kind-formula : (f : ℕ → Formula ℕ) (marks : ℕ → Mark) (at : ℕ → List ℕ) (o : Node ℕ) → ((i : ℕ) → Operand i o → marks i ≡ markOf (f i))
+      → ((i : ℕ) → Operand i o → at i ≡ rowsOf (f i)) → (mark : Mark) → mark ≡ markOf (formulaOf o f)
+      → kindRelation n (length ins) outputs outs succ compared (nodeOf o .kind) (nodeOf o .left) mark (marks (nodeOf o .left))
+      (at (nodeOf o .left)) (at (nodeOf o .right))
+      ≡ rowsOf (formulaOf o f)
+  unfolding signalRelation
+  kind-formula f marks at top p h mark e = top-rows n m ins outputs outs succ compared κ same
+  kind-formula f marks at (atom w) p h mark e = refl
+  kind-formula f marks at (neg i) p h mark e = h i of-neg
+  kind-formula f marks at (or i j) p h mark e = rw (h i of-or-l, h j of-or-r) (or-rows n m ins outputs outs succ compared κ same (f i) (f j))
+  kind-formula f marks at (ex i) p h mark e = rw (e, p i of-ex, h i of-ex) (ex-rows n m ins outputs outs succ compared κ same (f i))
+  kind-formula f marks at (eg i) p h mark e = rw (e, h i of-eg) (eg-rows n m ins outputs outs succ compared κ same (f i))
+  kind-formula f marks at (eu i j) p h mark e =
+      rw (e, h i of-eu-l, h j of-eu-r) (eu-rows n m ins outputs outs succ compared κ same (f i) (f j))
+
+  -- the nodes of a formula one after the other
+  module _
+      (nodes : List stored.Node)
+      (count : ℕ)
+      (ns : List (Node ℕ))
+      (l : Listing nodes count ns)
+      (marks : List Mark)
+      (marked : Marked t κ ns marks)
+    where
+      abbrev relationAt : ℕ → List ℕ
+      relationAt k = rowsOf (formulaAt ns k)
+
+      node-formula : (k : ℕ) (r : List (List ℕ)) → k < count → Written (replicate 24 noRelation) 0 count (λ k. relationAt k ∷ []) k r
+          → ruleRelation n (length ins) outputs outs succ compared (getD nodes k (nodeOf top)) (getD marks k noMark) marks r ≡ relationAt k
+      node-formula k r h w =
+          rw (l .at k, formula-at ns (l .earlier) k)
+          (kind-formula (formulaAt ns) (λ i. getD marks i noMark) (λ i. getD r i []) (nodeAt ns k)
+          (λ i o. marked .each i (omega (arith, l .earlier k i o, l .long)))
+          (λ i o. stored-at relationAt [] (replicate 24 noRelation) count k r
+          (omega (arith, length-replicate 24 noRelation, l .long, l .room)) w i (l .earlier k i o))
+          (getD marks k noMark) (marked .each k (omega (arith, l .long)) ∙ ap markOf (formula-at ns (l .earlier) k)))
+
+-- the loop over the nodes
+module _ (states inputs : ℕ) (outputs outs succ compared : List ℕ) (nodes : List stored.Node) (count : ℕ) (marks : List Mark) where
+  abbrev Related : ℕ → List (List ℕ) → Type 0
+  Related k r = Relating states inputs outputs outs succ compared nodes count marks k r
+
+  abbrev tableBy : List ℕ → Table
+  tableBy ins = fromWords states ins outputs outs succ
+
+  pub relating-start : Related 0 (replicate 24 noRelation)
+  relating-start = record { reached = omega arith; each = λ ins e ns l q. written-start (replicate 24 noRelation) 0 count _ }
+
+  pub relating-more : states ≤ 32 → (k : ℕ) (r : List (List ℕ)) (v : List ℕ) → k < count
+      → v ≡ ruleRelation states inputs outputs outs succ compared (getD nodes k (nodeOf top)) (getD marks k noMark) marks r
+      → Related k r → Related (k + 1) (set r k v)
+  relating-more m k r v h e s =
+      record {
+        reached = omega arith;
+        each =
+            λ ins q ns l p.
+            singles-more (λ k. formulaRelation (tableBy ins) (comparing compared (tableBy ins)) (formulaAt ns k))
+            (replicate 24 noRelation) count k r v h
+            (rw (← q) at e ∙ node-formula states m ins outputs outs succ compared nodes count ns l marks p k r h (s .each ins q ns l p))
+            (s .each ins q ns l p);
+      }
+
+  pub relating-end : (k : ℕ) (r : List (List ℕ)) → count ≡ k → Related k r
+      → RelatedNodes states inputs outputs outs succ compared nodes count marks r
+  unfolding listRelations
+  relating-end k r e s ins q ns l p =
+      let g : ℕ → List ℕ = λ k. formulaRelation (tableBy ins) (comparing compared (tableBy ins)) (formulaAt ns k) in
+      written-end (replicate 24 noRelation) 0 count (λ k. g k ∷ []) k r e (s .each ins q ns l p)
+      ∙ ap (λ vs. sets (replicate 24 noRelation) 0 vs) (join-list g count ∙ ap (λ n. listBelow n g) (l .long))
