@@ -1,0 +1,4 @@
+pub mod Agreeing
+pub mod Guarded
+pub mod Words
+pub mod Meaning
