@@ -1,5 +1,5 @@
 -- Tables that agree in their states and assignments combine to the same steps, and nodes are true in the same combined states.
-use mathlib.Core.Path.{_≡_, refl, sym, ap, ap₂, _∙_}
+use mathlib.Core.Path.{_≡_, refl, ap, ap₂, _∙_}
 use mathlib.Core.Bool.{Bool, not, cond, _&&_, _||_}
 use mathlib.Core.List.{List}
 use lib.Dec.{eqb}
@@ -11,13 +11,13 @@ use Rattle.meaning.specs.Tests.{anyBelow}
 use Rattle.meaning.specs.Table.{Table, assignments, owns, drives, reading}
 use Rattle.meaning.specs.Nodes.{Node, top, atom, neg, or, ex, eg, eu, nodeAt}
 use Rattle.meaning.specs.Combination.{high, count}
-use Rattle.meaning.specs.Reference.Tests.{allBelow, shrink, grow}
+use Rattle.meaning.specs.Reference.Tests.{shrink, grow}
 use Rattle.meaning.specs.Reference.Marks.{onB, canB, holdB, reachB}
 use Rattle.meaning.specs.Reference.Truth.{part, product}
 use Rattle.meaning.proofs.Basic.Bounded.{any-same, all-same}
 use Rattle.meaning.proofs.File.Tables.{reading-lt, reading-same}
 use Rattle.meaning.proofs.Meaning.Index.{part-lt}
-use Rattle.truth.specs.Nodes.{nodeB, nodesB, truthOf, barredAt, combinedB, combinedWord}
+use Rattle.truth.specs.Nodes.{nodeB, nodesB, truthOf, barredAt, combinedB}
 use Rattle.merging.proofs.Tables.{Agreeing}
 
 -- tests that agree below n

@@ -1,9 +1,8 @@
 -- Truth of all nodes on tables that agree with the merged ones, where the classes are barred that are FAIL of an EG node, is document 01's
 -- truth in the merged combination: the guard shuts out just those.
-use mathlib.Core.Path.{_≡_, refl, sym, subst, ap, ap₂, _∙_}
+use mathlib.Core.Path.{_≡_, refl, sym, subst, ap, _∙_}
 use mathlib.Core.Bool.{Bool, true, false, not, _&&_, _||_}
 use mathlib.Core.List.{List}
-use lib.Dec.{T}
 use lib.ListN.{length, List·getD-eq-default}
 use native.Mathlib.Decide.{decLt}
 use native.Mathlib.Omega.{arith}
