@@ -2,3 +2,5 @@ pub mod Agreeing
 pub mod Guarded
 pub mod Words
 pub mod Meaning
+pub mod Reaching
+pub mod Root

@@ -1,1 +1,2 @@
 // The merged words of an instrument (document 01, Merged tables): the truth of the root and the nodes under it in every merged state.
+pub mod under; // under.rt: the root and the nodes under it
