@@ -4,3 +4,5 @@ pub mod Words
 pub mod Meaning
 pub mod Reaching
 pub mod Root
+pub mod Barring
+pub mod BarRows
