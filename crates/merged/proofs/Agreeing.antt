@@ -5,12 +5,12 @@ use mathlib.Core.List.{List}
 use lib.Dec.{eqb}
 use lib.ListN.{length, getD}
 use native.Mathlib.Omega.{arith}
-use Prim.Native.Nat.{ℕ, zero, suc, _*_, _/_, _%_, _^_, _<_}
+use Prim.Native.Nat.{ℕ, zero, suc, _+_, _*_, _/_, _%_, _^_, _<_}
 use Rattle.words.specs.Sets.{has}
 use Rattle.meaning.specs.Tests.{anyBelow}
 use Rattle.meaning.specs.Table.{Table, assignments, owns, drives, reading}
 use Rattle.meaning.specs.Nodes.{Node, top, atom, neg, or, ex, eg, eu, nodeAt}
-use Rattle.meaning.specs.Combination.{high, count}
+use Rattle.meaning.specs.Combination.{high, count, index}
 use Rattle.meaning.specs.Reference.Tests.{shrink, grow}
 use Rattle.meaning.specs.Reference.Marks.{onB, canB, holdB, reachB}
 use Rattle.meaning.specs.Reference.Truth.{part, product}
@@ -87,7 +87,7 @@ module _ (t u : Table) (e : Agreeing t u) where
         pub truth-same : (k : ℕ) → Same (u .states) (truthOf t a c nodes k) (truthOf u b d nodes k)
         truth-same k = nodes-same (suc k) k
 
--- parts and count by sizes that agree
+-- parts, count and index by sizes that agree
 pub part-same : (m r : ℕ → ℕ) (i : ℕ) → ((j : ℕ) → j < suc i → m j ≡ r j) → (x : ℕ) → part m i x ≡ part r i x
 part-same m r zero h x = ap (λ s. x % s) (h 0 (omega arith))
 part-same m r (suc i) h x =
@@ -98,6 +98,12 @@ pub count-same : (n : ℕ) (m r : ℕ → ℕ) → ((i : ℕ) → i < n → m i 
 count-same zero m r h = refl
 count-same (suc n) m r h =
     ap₂ (λ a b. a * b) (h 0 (omega arith)) (count-same n (λ i. m (suc i)) (λ i. r (suc i)) (λ i l. h (suc i) (omega arith)))
+
+pub index-sizes : (n : ℕ) (m r s : ℕ → ℕ) → ((i : ℕ) → i < n → m i ≡ r i) → index n m s ≡ index n r s
+index-sizes zero m r s h = refl
+index-sizes (suc n) m r s h =
+    ap₂ (λ a b. s 0 + a * b) (h 0 (omega arith))
+    (index-sizes n (λ i. m (suc i)) (λ i. r (suc i)) (λ i. s (suc i)) (λ i l. h (suc i) (omega arith)))
 
 module _ (n : ℕ) (S U : ℕ → Table) (e : (i : ℕ) → i < n → Agreeing (S i) (U i)) (some : (i : ℕ) → i < n → 0 < U i .states) where
   abbrev at : ℕ → ℕ → ℕ

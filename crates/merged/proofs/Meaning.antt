@@ -25,6 +25,7 @@ use Rattle.meaning.proofs.Basic.Entries.{list-at, list-length}
 use Rattle.meaning.proofs.Claims.{merged-01, merged-bits-01, merged-state-01, lookup-01}
 use Rattle.meaning.proofs.File.Nodes.{beneath-in, beneath-le, beneath-out}
 use Rattle.meaning.proofs.Meaning.Index.{index-lt, index-same}
+use Rattle.merged.specs.Words.{underRoot}
 
 module _ (I : Instrument) (ok : Accepted I) where
   abbrev n : ℕ
@@ -68,7 +69,19 @@ module _ (I : Instrument) (ok : Accepted I) where
   beneath-listed : (k : ℕ) → Beneath (I .nodes) k (rootNode I) → k < length (I .nodes)
   beneath-listed k b = omega (arith, beneath-le (I .nodes) (ok .earlier) k (rootNode I) b, ok .rooted)
 
-  -- the root and the nodes under it
+  -- what is in the word of the root and the nodes under it
+  pub under-root-has : (k : ℕ) → T (has (underRoot I) k) ↔ Beneath (I .nodes) k (rootNode I)
+  unfolding underRoot
+  under-root-has k = (
+    λ h.
+        let l = has-built-lt (length (I .nodes)) under k h in
+        beneath-out (I .nodes) (suc (rootNode I)) k (rootNode I) (subst T (has-built (length (I .nodes)) under k l) h),
+    λ b.
+        subst T (sym (has-built (length (I .nodes)) under k (beneath-listed k b)))
+        (beneath-in (I .nodes) (ok .earlier) (suc (rootNode I)) k (rootNode I) (omega arith) b),
+  )
+
+  -- the bit of the root or of a node under it
   pub words-truth : (k : ℕ) → Beneath (I .nodes) k (rootNode I) → (s : State n S)
       → T (has (getD (mergedWords I) (mergedIndex n S (classesAt I) (s .at)) 0) k) ↔ Truth n S (high n S) (formulaAt (I .nodes) k) s
   words-truth k b s =
