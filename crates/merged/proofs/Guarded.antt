@@ -1,0 +1,104 @@
+-- Truth of all nodes on tables that agree with the merged ones, where the classes are barred that are FAIL of an EG node, is document 01's
+-- truth in the merged combination: the guard shuts out just those.
+use mathlib.Core.Path.{_≡_, refl, sym, subst, ap, _∙_}
+use mathlib.Core.Bool.{Bool, true, false, not, _&&_, _||_}
+use mathlib.Core.List.{List}
+use lib.ListN.{length, List·getD-eq-default}
+use native.Mathlib.Decide.{decLt}
+use native.Mathlib.Omega.{arith}
+use Prim.Native.Nat.{ℕ, zero, suc, _<_}
+use Rattle.words.specs.Sets.{has}
+use Rattle.words.proofs.Built.{has-built, built-same}
+use Rattle.words.specs.Sets.{built}
+use Rattle.meaning.specs.Tests.{anyBelow}
+use Rattle.meaning.specs.Table.{Table}
+use Rattle.meaning.specs.Nodes.{Node, top, atom, neg, or, ex, eg, eu, Earlier, nodeAt, formulaAt}
+use Rattle.meaning.specs.Combination.{high}
+use Rattle.meaning.specs.View.{View, wholeWords}
+use Rattle.meaning.specs.Classes.{classCount, lowestOf}
+use Rattle.meaning.specs.Merged.{mergedTables, mergedSizes, mergedCount, lowestStates}
+use Rattle.meaning.specs.Reference.Tests.{allBelow}
+use Rattle.meaning.specs.Reference.Marks.{failB}
+use Rattle.meaning.specs.Reference.Truth.{part}
+use Rattle.meaning.specs.Reference.Merged.{guardB, mergedB}
+use Rattle.meaning.proofs.Basic.Bounded.{any-same}
+use Rattle.meaning.proofs.Meaning.Index.{part-lt}
+use Rattle.truth.specs.Nodes.{barredAt, combinedB, combinedWord}
+use Rattle.truth.proofs.Nodes.{combined-guarded}
+use Rattle.merging.proofs.Tables.{Agreeing}
+use Rattle.merged.specs.Words.{failClasses}
+use Rattle.merged.proofs.Agreeing.{combined-same, high-same}
+
+-- none passes a test if all fail it
+none-all : (n : ℕ) (f : ℕ → Bool) → allBelow n (λ i. not (f i)) ≡ not (anyBelow n f)
+none-all zero f = refl
+none-all (suc n) f = go (f n) (none-all n f)
+  where
+    go : (b : Bool) → allBelow n (λ i. not (f i)) ≡ not (anyBelow n f) → (not b && allBelow n (λ i. not (f i))) ≡ not (b || anyBelow n f)
+    go true h = refl
+    go false h = h
+
+pub has-fail-classes : (t : Table) (cls : ℕ → ℕ) (nodes : List (Node ℕ)) (k c : ℕ) → c < classCount t cls
+    → has (failClasses t cls (formulaAt nodes k)) c ≡ failB t (wholeWords t) (formulaAt nodes k) (lowestOf t cls c)
+unfolding failClasses
+has-fail-classes t cls nodes k c l = has-built (classCount t cls) (λ c. failB t (wholeWords t) (formulaAt nodes k) (lowestOf t cls c)) c l
+
+-- an EG node is one of the listed nodes
+eg-listed : (nodes : List (Node ℕ)) (k i : ℕ) → nodeAt nodes k ≡ eg i → k < length nodes
+eg-listed nodes k i e =
+    elim (decLt k (length nodes)) [
+      | yes l ↦ l
+      | no l ↦ absurd (subst IsTop (sym (List·getD-eq-default nodes top {n = k} (omega arith)) ∙ e) tt)
+    ]
+  where
+    IsTop : Node ℕ → Type 0
+    IsTop top = Unit {0}
+    IsTop (atom w) = ⊥
+    IsTop (neg i) = ⊥
+    IsTop (or i j) = ⊥
+    IsTop (ex i) = ⊥
+    IsTop (eg i) = ⊥
+    IsTop (eu i j) = ⊥
+
+module _ (n : ℕ) (S : ℕ → Table) (cls : ℕ → ℕ → ℕ) (some : (i : ℕ) → i < n → 0 < classCount (S i) (cls i)) where
+  abbrev κ : ℕ → View ℕ
+  κ i = wholeWords (S i)
+
+  abbrev M : ℕ → Table
+  M = mergedTables n S cls
+
+  abbrev r : ℕ → ℕ
+  r = mergedSizes n S cls
+
+  module _
+      (nodes : List (Node ℕ))
+      (barred : ℕ → ℕ → ℕ)
+      (bars : (i k : ℕ) → i < n → k < length nodes → barred i k ≡ failClasses (S i) (cls i) (formulaAt nodes k))
+    where
+      -- the guard of a node is that no class is barred there
+      pub guard-barred : (k x : ℕ) → k < length nodes
+          → guardB n S cls κ (high n S) (formulaAt nodes k) x ≡ not (barredAt n r barred k x)
+      guard-barred k x l =
+          none-all n (λ i. failB (S i) (κ i) (formulaAt nodes k) (lowestOf (S i) (cls i) (part r i x)))
+          ∙ ap not (any-same n (λ i. failB (S i) (κ i) (formulaAt nodes k) (lowestOf (S i) (cls i) (part r i x)))
+          (λ i. has (barred i k) (part r i x)) (λ i h.
+          sym (ap (λ w. has w (part r i x)) (bars i k h l)
+          ∙ has-fail-classes (S i) (cls i) nodes k (part r i x) (part-lt r i (some i h) x))))
+
+      module _ (earlier : Earlier nodes) (W : ℕ) (U : ℕ → Table) (agreeing : (i : ℕ) → i < n → Agreeing (U i) (M i)) where
+        -- a signal's level is that of the lowest states
+        pub high-lowest : (w x : ℕ) → high n U w (λ i. part (λ i. U i .states) i x) ≡ high n S w (lowestStates n S cls (λ i. part r i x))
+        high-lowest w x = high-same n U M agreeing some w x
+
+        pub combined-merged : (k x : ℕ) → x < mergedCount n S cls
+            → combinedB n U W barred nodes k x ≡ mergedB n S cls κ (high n S) W (formulaAt nodes k) x
+        combined-merged k x l =
+            combined-same n U M agreeing some W barred nodes k x l
+            ∙ combined-guarded n M W barred nodes earlier (guardB n S cls κ (high n S))
+            (λ k i e x. guard-barred k x (eg-listed nodes k i e)) k x
+
+        pub word-merged : (x : ℕ) → x < mergedCount n S cls
+            → combinedWord n U W barred nodes x ≡ built (length nodes) (λ k. mergedB n S cls κ (high n S) W (formulaAt nodes k) x)
+        word-merged x l =
+            built-same (length nodes) (λ k. combinedB n U W barred nodes k x) (λ k. mergedB n S cls κ (high n S) W (formulaAt nodes k) x)
+            (λ k h. combined-merged k x l)

@@ -1,0 +1,12 @@
+-- Truth of all nodes on tables that agree with the merged ones; the guard; the merged words and what they mean
+pub mod Agreeing
+pub mod Guarded
+pub mod Words
+pub mod Meaning
+-- The way down from the root
+pub mod Reaching
+pub mod Root
+-- The classes that are barred, and all parts together
+pub mod Barring
+pub mod BarRows
+pub mod Whole
