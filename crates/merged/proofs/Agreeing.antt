@@ -17,7 +17,8 @@ use Rattle.meaning.specs.Reference.Truth.{part, product}
 use Rattle.meaning.proofs.Basic.Bounded.{any-same, all-same}
 use Rattle.meaning.proofs.File.Tables.{reading-lt, reading-same}
 use Rattle.meaning.proofs.Meaning.Index.{part-lt}
-use Rattle.truth.specs.Nodes.{nodeB, nodesB, truthOf, barredAt, combinedB}
+use Rattle.combination.specs.Combined.{barredAt}
+use Rattle.truth.specs.Nodes.{nodeB, nodesB, truthOf, combinedB}
 use Rattle.merging.proofs.Tables.{Agreeing}
 
 -- tests that agree below n

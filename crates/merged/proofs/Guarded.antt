@@ -23,7 +23,8 @@ use Rattle.meaning.specs.Reference.Truth.{part}
 use Rattle.meaning.specs.Reference.Merged.{guardB, mergedB}
 use Rattle.meaning.proofs.Basic.Bounded.{any-same}
 use Rattle.meaning.proofs.Meaning.Index.{part-lt}
-use Rattle.truth.specs.Nodes.{barredAt, combinedB, combinedWord}
+use Rattle.combination.specs.Combined.{barredAt}
+use Rattle.truth.specs.Nodes.{combinedB, combinedWord}
 use Rattle.truth.proofs.Nodes.{combined-guarded}
 use Rattle.merging.proofs.Tables.{Agreeing}
 use Rattle.merged.specs.Words.{failClasses}
