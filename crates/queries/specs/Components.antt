@@ -5,8 +5,8 @@ use Prim.Native.Nat.{ℕ, _-_}
 use Rattle.meaning.specs.File.Parser.{Got}
 use Rattle.cursor.specs.Answers.{number}
 use Rattle.reader.specs.Stretches.{Stretch, startOf, endOf, located}
-use Rattle.queries.specs.declared.Asked.{Asked}
-use Rattle.queries.specs.declared.Asked.the-variants.{Fine, Refused}
+use Rattle.queries.specs.declared.stretch.Asked.{Asked}
+use Rattle.queries.specs.declared.stretch.Asked.the-variants.{Fine, Refused}
 
 -- the number of an answer, 0 where the question is not refused
 abbrev pub askedNumber : Asked → ℕ

@@ -1,38 +1,11 @@
 // The questions of document 01 over the bytes of a file. No function here asks anything of its caller: bad input is refused by its number,
-// faults of the file first.
-use cursor::Refusal;
-use reader::Outcome;
-ghost use mathlib.Core.Path.{_≡_};
-ghost use Prim.Native.Nat.{ℕ, _≤_};
-ghost use Rattle.reader.specs.Outcomes.{faultNumber};
-ghost use Rattle.reader.specs.Stretches.{located};
-ghost use Rattle.queries.specs.Components.{askedNumber, componentBytes};
+// faults of the file first. Each contract has the clause `answer`, which equates the result and the lent buffer with what crate answers defines
+// from the file's bytes, and, where there is more to say, `meaning`: what an accepted answer means by paths.
+mod stretch;
+mod written;
 
-// Whether a question is answered, or why it is refused.
-pub enum Asked {
-    Fine,
-    Refused(Refusal),
-}
-
-// The part of the file that is the component's own, from its state count to its last successor set; empty exactly where component_refusal
-// refuses the question.
-pub fn component_bytes(file: &[u8], component: u32) -> &[u8]
-    ensures answer { λ r. ⌜ now r ≡ componentBytes (now (file .entry)) component ⌝ }
-{
-    let place = reader::locate(file, component);
-    let start = place.start;
-    let end = place.end;
-    &file[start..end]
-}
-
-// The number that goes with component_bytes: the first fault of the file, then 3 if there is no such component.
-pub fn component_refusal(file: &[u8], component: u32) -> Asked
-    ensures answer { λ r. ⌜ askedNumber r ≡ faultNumber (located (now (file .entry)) component) ⌝ }
-{
-    let place = reader::locate(file, component);
-    let outcome = place.outcome;
-    match outcome {
-        Outcome::Accepted => Asked::Fine,
-        Outcome::Refused(cause) => Asked::Refused(cause),
-    }
-}
+pub use stretch::Asked;
+pub use stretch::component_bytes;
+pub use stretch::component_refusal;
+pub use written::Written;
+pub use written::full_words;

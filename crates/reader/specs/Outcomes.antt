@@ -1,4 +1,5 @@
 -- What the reader's answers say in document 01's words: the number of the outcome, and the instrument of what was found.
+use mathlib.Core.Path.{_≡_}
 use Prim.Native.Nat.{ℕ}
 use Rattle.meaning.specs.File.Parser.{Got, found, fault}
 use Rattle.meaning.specs.File.Grammar.{Contents}
@@ -21,3 +22,10 @@ faultNumber (fault r) = r
 abbrev pub layoutOf : Got Contents → Instrument
 layoutOf (found k at) = layout k
 layoutOf (fault r) = layout nothing
+
+-- an outcome tells what was found: accepted where it is contents, refused by the number of the fault where it is none
+abbrev pub Tells : Outcome → Got Contents → Type 0
+Tells Accepted (found k at) = Unit {0}
+Tells Accepted (fault r) = ⊥
+Tells (Refused cause) (found k at) = ⊥
+Tells (Refused cause) (fault r) = number cause ≡ r

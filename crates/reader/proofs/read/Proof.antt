@@ -1,6 +1,7 @@
-use mathlib.Core.Path.{sym, ap, _∙_}
+use mathlib.Core.Path.{refl, sym, subst, ap, _∙_}
 use Rattle.meaning.specs.File.Grammar.{readFile}
-use Rattle.reader.specs.Outcomes.{faultNumber, layoutOf}
+use Rattle.reader.specs.Outcomes.{layoutOf, Tells}
+use Rattle.reader.specs.declared.Outcome.the-variants.{Accepted, Refused}
 use Rattle.reader.proofs.Steps.{refused-was, accepted-was}
 use borrow.Author.Needs.{needs}
 use Rattle.reader.proofs.read.Statement.{statement}
@@ -24,14 +25,14 @@ returns c =
     let args′ = c .before .before .before .before .before .before .args in
     let outcome′ = c .before .before .outcome in
     let e = refused-was (whole′ .result) _ (readFile (args′ .file .now)) (outcome′ .given .1) (whole′ .ensures .0) in
-    (sym (ap faultNumber e), c .empty .ensures ∙ sym (ap layoutOf e))
+    (subst (Tells (Refused (outcome′ .given .0 .0))) (sym e) refl, c .empty .ensures ∙ sym (ap layoutOf e))
 
 returns-2 : tie.Need-returns-2
 returns-2 c =
     let whole′ = c .before .before .before .whole in
     let args′ = c .before .before .before .before .before .args in
     let w = accepted-was (whole′ .result) (readFile (args′ .file .now)) (c .before .enum-told .given .1) (whole′ .ensures .0) in
-    (sym (ap faultNumber (w .is)), w .same ∙ sym (ap layoutOf (w .is)))
+    (subst (Tells Accepted) (sym (w .is)) tt, w .same ∙ sym (ap layoutOf (w .is)))
 
 pub read-spec : {M : Type 1} → statement M
 read-spec =

@@ -1,8 +1,8 @@
 use mathlib.Core.Path.{_≡_, ap, sym, _∙_}
 use borrow.Author.Needs.{needs}
 use Rattle.reader.specs.Outcomes.{outcomeNumber}
-use Rattle.queries.proofs.component_refusal.Statement.{statement}
-use Rattle.queries.proofs.component_refusal.Tie as tie
+use Rattle.queries.proofs.stretch.component_refusal.Statement.{statement}
+use Rattle.queries.proofs.stretch.component_refusal.Tie as tie
 
 locate-requires : tie.Need-locate-requires
 locate-requires c κs = search needs

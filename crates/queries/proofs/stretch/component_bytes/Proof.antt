@@ -5,8 +5,8 @@ use borrow.Author.Needs.{needs}
 use lib.ListN.{length, take, drop}
 use Rattle.reader.specs.Stretches.{located, startOf, endOf}
 use Rattle.queries.proofs.Stretches.{inside}
-use Rattle.queries.proofs.component_bytes.Statement.{statement}
-use Rattle.queries.proofs.component_bytes.Tie as tie
+use Rattle.queries.proofs.stretch.component_bytes.Statement.{statement}
+use Rattle.queries.proofs.stretch.component_bytes.Tie as tie
 
 locate-requires : tie.Need-locate-requires
 locate-requires c κs = search needs
