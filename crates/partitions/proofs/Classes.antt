@@ -1,6 +1,6 @@
 -- What callers need of the names: the name of each state, that it is a state and the lowest of its class, and how many names there are.
 use mathlib.Core.Path.{_≡_, refl, ap, ap₂, _∙_}
-use mathlib.Core.List.{List, []}
+use mathlib.Core.List.{[]}
 use lib.ListN.{length, getD, replicate, length-append, length-replicate}
 use native.Mathlib.Omega.{arith}
 use Prim.Native.Nat.{ℕ, zero, suc, _+_, _≤_, _<_}
@@ -20,7 +20,7 @@ use Rattle.instrument.proofs.Bounds.{count-bounds, states-bounds}
 use Rattle.instrument.proofs.Tables.{table-count, table-states}
 use Rattle.classes.proofs.Padded.{padded-at}
 use Rattle.relations.proofs.NodeRelations.{front-at}
-use Rattle.partitions.specs.Classes.{tableClasses, componentClasses, classesOf, sumBelow, stateSum}
+use Rattle.partitions.specs.Classes.{tableClasses, componentClasses, noNames, classesOf, sumBelow, stateSum}
 
 -- names are states, at most the state itself, and name themselves
 module _ (I : Instrument) (accepted : Accepted I) (i : ℕ) (l : i < components I) where
@@ -43,9 +43,6 @@ module _ (I : Instrument) (accepted : Accepted I) (i : ℕ) (l : i < components 
   class-le x h = names .lowest x x h h (equivalence .refl x h)
 
 -- what stands at a component's and a state's place
-abbrev noNames : List ℕ
-noNames = replicate 32 0
-
 pub row-at : (I : Instrument) → components I ≤ 4 → (i : ℕ) → i < components I → getD (classesOf I) i [] ≡ componentClasses I i
 unfolding classesOf
 row-at I few i l =
@@ -79,17 +76,17 @@ module _ (t : stored.Instrument) (k : Contents) (d : Describes t k) where
   abbrev I : Instrument
   I = instrumentOf k
 
-  few : components I ≤ 4
-  few = omega (arith, table-count t k d, count-bounds t k d .1)
+  pub few-components : components I ≤ 4
+  few-components = omega (arith, table-count t k d, count-bounds t k d .1)
 
   pub few-states : (i : ℕ) → i < components I → table I i .states ≤ 32
   few-states i l = rw (table-states t k d i) (states-bounds t k d i (omega (arith, table-count t k d)) .1)
 
   pub described-row : (i : ℕ) → i < components I → getD (classesOf I) i [] ≡ componentClasses I i
-  described-row = row-at I few
+  described-row = row-at I few-components
 
   pub described-name : (i x : ℕ) → i < components I → x < table I i .states → getD (getD (classesOf I) i []) x 0 ≡ classesAt I i x
-  described-name i x l h = name-at I few i l (few-states i l) x h
+  described-name i x l h = name-at I few-components i l (few-states i l) x h
 
   pub names-length : length (classNames I) ≡ stateSum t
   names-length =

@@ -18,7 +18,6 @@ use Rattle.meaning.proofs.File.Accepted.{accepted}
 use Rattle.instrument.specs.declared.Instrument.{Instrument}
 use Rattle.instrument.specs.Described.{Describes}
 use Rattle.instrument.proofs.Places.{nodecount-is}
-use Rattle.instrument.proofs.Bounds.{states-bounds}
 use Rattle.instrument.proofs.Tables.{table-count, table-states}
 use Rattle.classes.specs.Rows.{rel, rows}
 use Rattle.classes.specs.Names.{Inhabited, classNames}
@@ -29,6 +28,7 @@ use Rattle.relations.specs.Relations.{formulaRelation, componentRelations}
 use Rattle.relations.proofs.NodeRelations.{relation-at}
 use Rattle.relations.proofs.Meaning.{related-equivalence, relation-decides}
 use Rattle.partitions.specs.Classes.{tableClasses, componentClasses}
+use Rattle.partitions.proofs.Classes.{few-states}
 
 -- tests that agree below n have the same lowest number
 lowest-same : (n : ℕ) (f g : ℕ → Bool) → ((i : ℕ) → i < n → f i ≡ g i) → lowest n f ≡ lowest n g
@@ -51,8 +51,11 @@ module _ (t : Instrument) (k : Contents) (d : Describes t k) (i : ℕ) (l : i < 
   abbrev I : meaning.Instrument
   I = instrumentOf k
 
-  few-states : table I i .states ≤ 32
-  few-states = rw (table-states t k d i) (states-bounds t k d i l .1)
+  here : i < components I
+  here = omega (arith, table-count t k d)
+
+  small : table I i .states ≤ 32
+  small = few-states t k d i here
 
   -- the root is the last node
   abbrev root : ℕ
@@ -65,18 +68,15 @@ module _ (t : Instrument) (k : Contents) (d : Describes t k) (i : ℕ) (l : i < 
   pub root-inhabited : (r : List (List ℕ)) → r ≡ componentRelations I i → Inhabited (getD (t .states) i 0) (getD r (t .nodecount - 1) [])
   root-inhabited r e =
       rw (e, nodecount-is t k d, ← table-states t k d i)
-      (inhabited (table I i) few-states (getD (componentRelations I i) root []) (related-equivalence I good i here root)
-      (relation-decides I good i here root few-states (d .promised .nodeCount .1) root-lt))
+      (inhabited (table I i) small (getD (componentRelations I i) root []) (related-equivalence I good i here root)
+      (relation-decides I good i here root small (d .promised .nodeCount .1) root-lt))
     where
       good : Accepted I
       good = accepted limits k (d .promised)
-
-      here : i < components I
-      here = omega (arith, table-count t k d)
 
   pub root-classes : (r : List (List ℕ)) → r ≡ componentRelations I i
       → classNames (getD r (t .nodecount - 1) []) (getD (t .states) i 0) ≡ componentClasses I i
   root-classes r e =
       let a = relation-at (table I i) (wholeWords (table I i)) (k .nodes) (d .promised .nodeCount .1) root root-lt in
       rw (e, nodecount-is t k d, ← table-states t k d i, a)
-      (root-names (table I i) (wholeWords (table I i)) (k .nodes) few-states)
+      (root-names (table I i) (wholeWords (table I i)) (k .nodes) small)

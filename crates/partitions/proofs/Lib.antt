@@ -1,8 +1,8 @@
+-- what callers need of the names and the counts
+pub mod Classes
+pub mod Counts
 -- the names of one component from the relation at the root; of all components
 pub mod Component
 pub mod Naming
--- what stands in the names and the counts
-pub mod Classes
-pub mod Counts
 -- names written one component after the other
 pub mod Entries

@@ -17,11 +17,8 @@ use Rattle.marks.specs.NodeMarks.{noMark, listMarks, marksOf}
 use Rattle.marks.proofs.Written.{written-start, written-end, join-list, singles-more}
 use Rattle.relations.specs.Relations.{MarkedComponent}
 use Rattle.relations.proofs.NodeRelations.{front-at}
-use Rattle.partitions.specs.Classes.{componentClasses, classesOf, MarkedInstrument}
+use Rattle.partitions.specs.Classes.{componentClasses, noNames, classesOf, MarkedInstrument}
 use Rattle.partitions.specs.Progress.{Naming}
-
-abbrev noNames : List ℕ
-noNames = replicate 32 0
 
 -- the row of a component's marks
 marks-row : (I : meaning.Instrument) → components I ≤ 4 → (i : ℕ) → i < components I

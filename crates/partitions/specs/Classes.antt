@@ -29,9 +29,13 @@ tableClasses t κ ns = padded (limits .states) (t .states) (rootClass t κ (form
 abbrev pub componentClasses : meaning.Instrument → ℕ → List ℕ
 componentClasses I c = tableClasses (table I c) (wholeWords (table I c)) (I .nodes)
 
+-- of no component
+abbrev pub noNames : List ℕ
+noNames = replicate (limits .states) 0
+
 -- of all components, 0 past the last one
 unfoldable pub classesOf : meaning.Instrument → List (List ℕ)
-classesOf I = sets (replicate (limits .components) (replicate (limits .states) 0)) 0 (listBelow (components I) (componentClasses I))
+classesOf I = sets (replicate (limits .components) noNames) 0 (listBelow (components I) (componentClasses I))
 
 -- how many classes each component has, 1 past the last one: by the names in rows, and by document 01
 unfoldable pub countsIn : ℕ → List ℕ → List (List ℕ) → List ℕ

@@ -9,7 +9,7 @@ use Rattle.instrument.specs.declared.Instrument.{Instrument}
 use Rattle.marks.specs.declared.Mark.{Mark}
 use Rattle.marks.specs.Written.{Written}
 use Rattle.classes.specs.Names.{classCount}
-use Rattle.partitions.specs.Classes.{componentClasses, MarkedInstrument}
+use Rattle.partitions.specs.Classes.{componentClasses, noNames, MarkedInstrument}
 
 -- the first so many names of a row
 abbrev pub namesIn : List ℕ → ℕ → List ℕ
@@ -19,8 +19,7 @@ namesIn row states = listBelow states (λ x. getD row x 0)
 pub record Naming (t : Instrument) (marks : List (List Mark)) (i : ℕ) (names : List (List ℕ)) : Type 0 where
   pub reached : i ≤ t .components
   pub each : (k : Contents) → MarkedInstrument t marks k
-      → Written (replicate (limits .components) (replicate (limits .states) 0)) 0 (t .components)
-      (λ i. componentClasses (instrumentOf k) i ∷ []) i names
+      → Written (replicate (limits .components) noNames) 0 (t .components) (λ i. componentClasses (instrumentOf k) i ∷ []) i names
 
 -- the names of the first i of n components are written, one component after the other, and the next place is known
 pub record Writing (n : ℕ) (states : List ℕ) (names : List (List ℕ)) (out₀ : List ℕ) (i place : ℕ) (out : List ℕ) : Type 0 where
