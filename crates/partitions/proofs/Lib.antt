@@ -6,3 +6,4 @@ pub mod Component
 pub mod Naming
 -- names written one component after the other
 pub mod Entries
+pub mod Summing

@@ -2,14 +2,14 @@
 use mathlib.Core.Path.{_≡_}
 use mathlib.Core.List.{List, [], _∷_}
 use lib.ListN.{length, getD, replicate}
-use Prim.Native.Nat.{ℕ, _≤_}
+use Prim.Native.Nat.{ℕ, _*_, _≤_}
 use Rattle.meaning.specs.File.Grammar.{Contents, instrumentOf, limits}
 use Rattle.meaning.specs.Reference.Answers.{listBelow, joinBelow}
 use Rattle.instrument.specs.declared.Instrument.{Instrument}
 use Rattle.marks.specs.declared.Mark.{Mark}
 use Rattle.marks.specs.Written.{Written}
 use Rattle.classes.specs.Names.{classCount}
-use Rattle.partitions.specs.Classes.{componentClasses, noNames, MarkedInstrument}
+use Rattle.partitions.specs.Classes.{componentClasses, noNames, MarkedInstrument, sumBelow}
 
 -- the first so many names of a row
 abbrev pub namesIn : List ℕ → ℕ → List ℕ
@@ -30,3 +30,9 @@ pub record Writing (n : ℕ) (states : List ℕ) (names : List (List ℕ)) (out�
 abbrev pub Counting : ℕ → List ℕ → List (List ℕ) → ℕ → List ℕ → Type 0
 Counting n states names i counts =
     Written (replicate (limits .components) 1) 0 n (λ i. classCount (getD names i []) (getD states i 0) ∷ []) i counts
+
+-- the states of the first i components are summed
+pub record Summing (t : Instrument) (i sum : ℕ) : Type 0 where
+  pub reached : i ≤ t .components
+  pub few : sum ≤ 32 * i
+  pub sums : sum ≡ sumBelow i (λ i. getD (t .states) i 0)

@@ -8,4 +8,6 @@ pub use stretch::Asked;
 pub use stretch::component_bytes;
 pub use stretch::component_refusal;
 pub use written::Written;
+pub use written::class_names;
 pub use written::full_words;
+pub use written::mark_words;

@@ -5,10 +5,10 @@ use reader::Outcome;
 ghost use mathlib.Core.Path.{_≡_};
 ghost use lib.ListN.{length};
 ghost use Rattle.meaning.specs.File.Grammar.{Contents, instrumentOf};
-ghost use Rattle.meaning.specs.Reference.Answers.{fitting, fullCount, fullWords};
+ghost use Rattle.meaning.specs.Reference.Answers.{fitting, classNames, fullCount, fullWords, markWords};
 ghost use Rattle.instrument.specs.Described.{Describes};
-ghost use Rattle.answers.specs.Outcomes.{within, fullOutcome};
-ghost use Rattle.answers.specs.Means.{Holds, FullMeans};
+ghost use Rattle.answers.specs.Outcomes.{within, classOutcome, fullOutcome, markOutcome};
+ghost use Rattle.answers.specs.Means.{Holds, ClassesMean, FullMeans, MarksMean};
 ghost use Rattle.queries.specs.Written.{writtenNumber, Answered};
 
 // How many entries were written at the front of the lent buffer, or why none was and the buffer is as it was.
@@ -45,6 +45,64 @@ pub fn full_words(file: &[u8], out: &mut [u32]) -> Written
         Outcome::Accepted => {
             let t = reading.instrument;
             write_full(t, out)
+        }
+    }
+}
+
+// The marks on the instrument of an accepted file: 13 alone.
+fn write_marked(t: Instrument, out: &mut [u32]) -> Written
+    requires { ⌜ ((k : Contents) × Describes t k) ⌝ }
+    ensures { λ r. ⌜ ((k : Contents) → Describes t k → Answered (fitting (length (now (out .entry))) (markWords (instrumentOf k))) r (now (out .entry)) (now (out .exit))) ⌝ }
+{
+    let n = 2 * t.components as usize * t.nodecount as usize;
+    if out.len() < n {
+        return Written::Refused(Refusal::Short);
+    }
+    marks::nodes::write_marks(t, out);
+    Written::Entries(n)
+}
+
+// Marks: two words for every component and node, PASS then FAIL, components outermost.
+pub fn mark_words(file: &[u8], out: &mut [u32]) -> Written
+    ensures answer { λ r. ⌜ Answered (markOutcome (now (file .entry)) (length (now (out .entry)))) r (now (out .entry)) (now (out .exit)) ⌝ }
+    ensures meaning { λ r. ⌜ (writtenNumber r ≡ 0 → Holds (MarksMean (now (out .exit))) (now (file .entry))) ⌝ }
+{
+    let reading = reader::read(file);
+    let outcome = reading.outcome;
+    match outcome {
+        Outcome::Refused(cause) => Written::Refused(cause),
+        Outcome::Accepted => {
+            let t = reading.instrument;
+            write_marked(t, out)
+        }
+    }
+}
+
+// The class names on the instrument of an accepted file: 13 alone.
+fn write_named(t: Instrument, out: &mut [u8]) -> Written
+    requires { ⌜ ((k : Contents) × Describes t k) ⌝ }
+    ensures { λ r. ⌜ ((k : Contents) → Describes t k → Answered (fitting (length (now (out .entry))) (classNames (instrumentOf k))) r (now (out .entry)) (now (out .exit))) ⌝ }
+{
+    let n = partitions::state_sum(t);
+    if out.len() < n {
+        return Written::Refused(Refusal::Short);
+    }
+    partitions::write_classes(t, out);
+    Written::Entries(n)
+}
+
+// Classes: the name of every state's class, one byte per state, components in order.
+pub fn class_names(file: &[u8], out: &mut [u8]) -> Written
+    ensures answer { λ r. ⌜ Answered (classOutcome (now (file .entry)) (length (now (out .entry)))) r (now (out .entry)) (now (out .exit)) ⌝ }
+    ensures meaning { λ r. ⌜ (writtenNumber r ≡ 0 → Holds (ClassesMean (now (out .exit))) (now (file .entry))) ⌝ }
+{
+    let reading = reader::read(file);
+    let outcome = reading.outcome;
+    match outcome {
+        Outcome::Refused(cause) => Written::Refused(cause),
+        Outcome::Accepted => {
+            let t = reading.instrument;
+            write_named(t, out)
         }
     }
 }

@@ -1,38 +1,56 @@
+use lib.ListN.{length}
+use native.Mathlib.Omega.{arith}
 use borrow.Author.Needs.{needs}
+use Rattle.meaning.specs.File.Grammar.{instrumentOf}
+use Rattle.meaning.specs.Reference.Answers.{fitting, fullCount, fullWords}
+use Rattle.answers.specs.Outcomes.{fullOutcome, within}
+use Rattle.answers.specs.Means.{FullMeans}
+use Rattle.answers.proofs.Means.{full-means}
+use Rattle.queries.proofs.Answering.{found-by, refused-both, file-answered, within-entries, means}
 use Rattle.queries.proofs.written.full_words.Statement.{statement}
 use Rattle.queries.proofs.written.full_words.Tie as tie
-use Rattle.queries.proofs.written.full_words.Reads as reads
-use Rattle.queries.proofs.written.full_words.Lts as lts
-use Rattle.queries.proofs.written.write_full.Reads as write-full-reads
-use Rattle.reader.proofs.read.Reads as read-reads
 
--- src/written.rt:41:9
 read-requires : tie.Need-read-requires
 read-requires c κs = search needs
 
--- src/written.rt:44:26
 enum-known-outcome : tie.Need-enum-known-outcome
 enum-known-outcome c = search needs
 
--- src/written.rt:46:17
 enum-told : tie.Need-enum-told
 enum-told c = search needs
 
--- src/written.rt:47:13
 write-full-requires : tie.Need-write-full-requires
-write-full-requires c κs = ?
+write-full-requires c κs =
+    let m = c .before .before .before .before in
+    let h = found-by (m .before .before .before .args .file .now) (m .read .result .instrument) (m .read .result .outcome) (c .before .before .enum-told .given .1)
+    (m .read .ensures .0) (m .read .ensures .1) in
+    (h .contents, h .describes)
 
--- src/written.rt:37:1
 returns : tie.Need-returns
-returns c = ?
+unfolding fullOutcome
+returns c =
+    let m = c .before .before .before in
+    let a = m .before .before .before .args in
+    let o = c .before .outcome in
+    refused-both (λ I. within (fullCount I) 11 (fitting (length (a .out .now)) (fullWords I))) (a .file .now) (a .out .now) (m .read .result .outcome) (o .given .0 .0) (o .given .1) (m .read .ensures .0)
 
--- src/written.rt:37:1
 same-length : tie.Need-same-length
 same-length c = search needs
 
--- src/written.rt:37:1
 returns-2 : tie.Need-returns-2
-returns-2 c = ?
+unfolding fullOutcome
+returns-2 c =
+    let w = c .before .before in
+    let m = w .before .before .before .before .before in
+    let a = m .before .before .before .args in
+    let old = a .out .now in
+    let h = found-by (a .file .now) (m .read .result .instrument) (m .read .result .outcome) (w .before .before .before .enum-told .given .1)
+    (m .read .ensures .0) (m .read .ensures .1) in
+    let I = instrumentOf (h .contents) in
+    let answered = w .write-full .ensures (h .contents) (h .describes) in (
+      file-answered (λ I. within (fullCount I) 11 (fitting (length old) (fullWords I))) h answered,
+      λ z. means FullMeans fullWords full-means h old _ (within-entries (fullWords I) (length old) (fullCount I) 11 (omega arith) answered z),
+    )
 
 pub full-words-spec : {M : Type 1} → statement M
 full-words-spec =
