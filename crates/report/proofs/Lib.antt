@@ -1,0 +1,8 @@
+-- how long the lines are, and their parts one after the other
+pub mod Lengths
+pub mod Parts
+-- bounds of both sizes, and the listing from the arrays of an instrument
+pub mod Sizes
+pub mod Listings
+-- a text copied byte by byte
+pub mod Copies

@@ -1,0 +1,51 @@
+-- The listing from the arrays of an instrument that describes a file's contents.
+use mathlib.Core.Path.{_≡_, ap, ap₂}
+use mathlib.Core.List.{List, [], _++_}
+use lib.ListN.{length, getD}
+use native.Mathlib.Omega.{arith}
+use Prim.Native.Nat.{ℕ, _*_, _≤_, _<_}
+use Rattle.meaning.specs.Instrument as meaning
+use Rattle.meaning.specs.Instrument.{components, table}
+use Rattle.meaning.specs.File.Grammar.{Contents, instrumentOf}
+use Rattle.meaning.specs.Reference.Answers.{joinBelow, classesAt}
+use Rattle.meaning.proofs.Basic.Entries.{join-same}
+use Rattle.answers.specs.Outcomes.{Judgement}
+use Rattle.answers.specs.Listing.{decimal, space, lineEnd, componentLabel, classesLabel, verdictLine, classLine, sizeLine, listingText}
+use Rattle.instrument.specs.declared.Instrument.{Instrument}
+use Rattle.instrument.specs.Described.{Describes}
+use Rattle.instrument.proofs.Bounds.{states-bounds}
+use Rattle.instrument.proofs.Tables.{table-count, table-states}
+use Rattle.partitions.specs.Classes.{classesOf}
+use Rattle.partitions.proofs.Classes.{described-name}
+use Rattle.report.specs.Report.{classLines, Listed}
+use Rattle.report.proofs.Lengths.{lines-short}
+
+-- names that agree make the same line
+line-same : (i states : ℕ) (f g : ℕ → ℕ) → ((x : ℕ) → x < states → f x ≡ g x) → classLine i states f ≡ classLine i states g
+line-same i states f g h =
+    ap (λ l. componentLabel ++ (decimal i ++ (classesLabel ++ (l ++ lineEnd))))
+    (join-same states (λ x. space ++ decimal (f x)) (λ x. space ++ decimal (g x)) (λ x l. ap (λ v. space ++ decimal v) (h x l)))
+
+module _ (t : Instrument) (k : Contents) (d : Describes t k) where
+  abbrev I : meaning.Instrument
+  I = instrumentOf k
+
+  -- the class lines of its first components have at most 381 bytes each
+  pub described-short : (n : ℕ) (names : List (List ℕ)) → n ≤ t .components → length (classLines n (t .states) names) ≤ 381 * n
+  described-short n names h =
+      lines-short n (λ i. getD (t .states) i 0) (λ i x. getD (getD names i []) x 0) (λ i l. states-bounds t k d i (omega arith) .1)
+
+  lines-same : (names : List (List ℕ)) → names ≡ classesOf I
+      → classLines (t .components) (t .states) names ≡ joinBelow (components I) (λ i. classLine i (table I i .states) (classesAt I i))
+  lines-same names e =
+      rw (e, ← table-count t k d)
+      (join-same (components I) (λ i. classLine i (getD (t .states) i 0) (λ x. getD (getD (classesOf I) i []) x 0))
+      (λ i. classLine i (table I i .states) (classesAt I i)) (λ i l.
+      rw (← table-states t k d i)
+      (line-same i (table I i .states) (λ x. getD (getD (classesOf I) i []) x 0) (classesAt I i) (λ x h. described-name t k d i x l h))))
+
+pub listing-same : (t : Instrument) (names : List (List ℕ)) (size full : ℕ) (k : Contents) → Listed t names size full k → (j : Judgement)
+    → verdictLine j ++ (classLines (t .components) (t .states) names ++ sizeLine size full) ≡ listingText (instrumentOf k) j
+unfolding listingText
+listing-same t names size full k h j =
+    ap₂ (λ a b. verdictLine j ++ (a ++ b)) (lines-same t k (h .describes) names (h .named)) (ap₂ sizeLine (h .mergedIs) (h .fullIs))

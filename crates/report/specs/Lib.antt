@@ -1,0 +1,2 @@
+-- what the public contracts say
+pub mod Report

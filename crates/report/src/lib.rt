@@ -1,0 +1,50 @@
+// The text of the listing program, and its copy into a lent buffer (document 01, Verdict and listing).
+ghost use mathlib.Core.Path.{_≡_};
+ghost use mathlib.Core.List.{List};
+ghost use Prim.Native.Nat.{ℕ, _≤_};
+ghost use lib.ListN.{length};
+ghost use Rattle.meaning.specs.File.Grammar.{Contents, instrumentOf};
+ghost use Rattle.meaning.specs.Reference.Answers.{entries, lentAfter};
+ghost use Rattle.answers.specs.Listing.{listingText, refusalLine};
+ghost use Rattle.text.specs.Texts.{textOf};
+ghost use Rattle.report.specs.Report.{judgementFrom, Listed, Spelled};
+use instrument::Instrument;
+use text::Text;
+pub mod lines;
+use lines::class_lines;
+use lines::refusal_line;
+use lines::size_line;
+use lines::verdict_line;
+
+// All lines: the verdict with its stage, the class names of every component, and both sizes.
+pub fn listing_text(t: Instrument, names: [[u8; 32]; 4], holds: bool, by_marks: bool, merged: usize, full: usize) -> Text
+    requires { ⌜ ((k : Contents) × Listed t names merged full k) ⌝ }
+    ensures { λ r. ⌜ ((k : Contents) → Listed t names merged full k → r ≡ textOf (listingText (instrumentOf k) (judgementFrom holds «by_marks»))) ⌝ }
+{
+    let empty = Text::empty();
+    let judged = verdict_line(empty, holds, by_marks);
+    let named = class_lines(judged, t, names);
+    size_line(named, merged as u32, full as u32)
+}
+
+// The one line of a refusal.
+pub fn refusal_text(number: u32) -> Text
+    ensures { λ r. ⌜ r ≡ textOf (refusalLine number) ⌝ }
+{
+    let empty = Text::empty();
+    refusal_line(empty, number)
+}
+
+// The bytes of a text copied to the front of a buffer.
+pub fn copy_text(text: Text, out: &mut [u8])
+    requires { ⌜ ((l : List ℕ) × Spelled text l) × (text .count ≤ length (now out)) ⌝ }
+    ensures { λ _. ⌜ ((l : List ℕ) → Spelled text l → now (out .exit) ≡ lentAfter (entries l) (now (out .entry))) ⌝ }
+{
+    let bytes = text.bytes;
+    let n = text.count;
+    let mut i: usize = 0;
+    while i < n {
+        out[i] = bytes[i];
+        i += 1;
+    }
+}
