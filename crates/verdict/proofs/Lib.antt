@@ -1,0 +1,8 @@
+-- Tests of a list's members and of its places
+pub mod Lists
+-- the starts by marks
+pub mod Starts
+-- the starts by merged words
+pub mod Holding
+-- the order of the stages
+pub mod Stages

@@ -1,0 +1,23 @@
+-- What each answer of the code is in document 01's words (Verdict and listing; Refused, numbers 12 and 14).
+use mathlib.Core.Bool.{true, false}
+use lib.Dec.{leb}
+use Rattle.meaning.specs.Instrument.{Instrument}
+use Rattle.meaning.specs.Reference.Answers.{mergedSize}
+use Rattle.meaning.specs.Reference.Tests.{allOf}
+use Rattle.meaning.specs.Reference.Verdict.{staged}
+use Rattle.answers.specs.Outcomes.{lookedUp, mostStates}
+use Rattle.meaning.specs.Verdict.{Answer, judged, clash, oversized, holds, fails, marks, merged}
+use Rattle.verdict.specs.declared.Verdict.{Verdict}
+use Rattle.verdict.specs.declared.Verdict.the-variants.{Marks, Merged, Clash, Oversized}
+
+abbrev pub answerOf : Verdict → Answer
+answerOf (Marks true) = judged holds marks
+answerOf (Marks false) = judged fails marks
+answerOf (Merged true) = judged holds merged
+answerOf (Merged false) = judged fails merged
+answerOf Clash = clash
+answerOf Oversized = oversized
+
+-- the answer where marks do not decide
+abbrev pub mergedStage : Instrument → Answer
+mergedStage I = staged false false false (leb (mergedSize I) mostStates) (allOf (lookedUp I) (I .starts))
