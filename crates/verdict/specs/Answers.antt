@@ -10,6 +10,7 @@ use Rattle.meaning.specs.Verdict.{Answer, judged, clash, oversized, holds, fail
 use Rattle.verdict.specs.declared.Verdict.{Verdict}
 use Rattle.verdict.specs.declared.Verdict.the-variants.{Marks, Merged, Clash, Oversized}
 
+-- by marks or by merged words: holds, or fails; 14; 12
 abbrev pub answerOf : Verdict → Answer
 answerOf (Marks true) = judged holds marks
 answerOf (Marks false) = judged fails marks
@@ -18,6 +19,6 @@ answerOf (Merged false) = judged fails merged
 answerOf Clash = clash
 answerOf Oversized = oversized
 
--- the answer where marks do not decide
+-- the answer where marks do not decide: 12, or whether every start is answered with true in the merged words
 abbrev pub mergedStage : Instrument → Answer
 mergedStage I = staged false false false (leb (mergedSize I) mostStates) (allOf (lookedUp I) (I .starts))
