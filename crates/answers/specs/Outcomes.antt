@@ -67,10 +67,11 @@ lookedUp I s =
     lookupB (components I) (table I) (classesAt I) (λ i. wholeWords (table I i)) (high (components I) (table I)) (I .signals) (rootFormula I)
     (λ i. getD s i 0)
 
+abbrev pub lookupOf : Instrument → List ℕ → Reply Bool
+lookupOf I s = choose (asksState I s) (choose (leb (mergedSize I) mostStates) (given (lookedUp I s)) (denied 12)) (denied 9)
+
 unfoldable pub lookupReply : List ℕ → List ℕ → Reply Bool
-lookupReply file s =
-    replyAfter (readFile file) (λ I.
-    choose (asksState I s) (choose (leb (mergedSize I) mostStates) (given (lookedUp I s)) (denied 12)) (denied 9))
+lookupReply file s = replyAfter (readFile file) (λ I. lookupOf I s)
 
 -- the verdict with its stage; numbers 14 and 12
 pub record Judgement : Type 0 where

@@ -92,10 +92,10 @@ module _ (f : Instrument → Outcome) where
   file-answered h {r} {old} {new} a = subst (λ g. Answered (after g f) r old new) (sym (h .read)) a
 
 -- a combination of so many states
-leb-true : (a b : ℕ) → a ≤ b → leb a b ≡ true
+pub leb-true : (a b : ℕ) → a ≤ b → leb a b ≡ true
 leb-true a b h = test-eq (leb a b) true (λ t. tt) (λ t. le→leb a b h)
 
-leb-false : (a b : ℕ) → b < a → leb a b ≡ false
+pub leb-false : (a b : ℕ) → b < a → leb a b ≡ false
 leb-false a b h = test-eq (leb a b) false (λ t. absurd (omega (arith, leb→le a b t))) (λ t. absurd t)
 
 module _ {old new : List ℕ} {r : Written} where

@@ -1,2 +1,3 @@
 pub mod Components
 pub mod Written
+pub mod Told

@@ -5,10 +5,10 @@ use reader::Outcome;
 ghost use mathlib.Core.Path.{_≡_};
 ghost use lib.ListN.{length};
 ghost use Rattle.meaning.specs.File.Grammar.{Contents, instrumentOf};
-ghost use Rattle.meaning.specs.Reference.Answers.{fitting, classNames, fullCount, fullWords, markWords};
+ghost use Rattle.meaning.specs.Reference.Answers.{fitting, classNames, fullCount, fullWords, markWords, mergedSize, mergedWords};
 ghost use Rattle.instrument.specs.Described.{Describes};
-ghost use Rattle.answers.specs.Outcomes.{within, classOutcome, fullOutcome, markOutcome};
-ghost use Rattle.answers.specs.Means.{Holds, ClassesMean, FullMeans, MarksMean};
+ghost use Rattle.answers.specs.Outcomes.{within, classOutcome, fullOutcome, markOutcome, mergedOutcome};
+ghost use Rattle.answers.specs.Means.{Holds, ClassesMean, FullMeans, MarksMean, MergedMeans};
 ghost use Rattle.queries.specs.Written.{writtenNumber, Answered};
 
 // How many entries were written at the front of the lent buffer, or why none was and the buffer is as it was.
@@ -103,6 +103,40 @@ pub fn class_names(file: &[u8], out: &mut [u8]) -> Written
         Outcome::Accepted => {
             let t = reading.instrument;
             write_named(t, out)
+        }
+    }
+}
+
+// The merged words on the instrument of an accepted file: 12, then 13.
+fn write_short(t: Instrument, out: &mut [u32]) -> Written
+    requires { ⌜ ((k : Contents) × Describes t k) ⌝ }
+    ensures { λ r. ⌜ ((k : Contents) → Describes t k → Answered (within (mergedSize (instrumentOf k)) 12 (fitting (length (now (out .entry))) (mergedWords (instrumentOf k)))) r (now (out .entry)) (now (out .exit))) ⌝ }
+{
+    let marks = marks::nodes::all_marks(t);
+    let names = partitions::marked_classes(t, marks);
+    let n = merging::merged_count(t, names);
+    if 4096 < n {
+        return Written::Refused(Refusal::MergedSize);
+    }
+    if out.len() < n {
+        return Written::Refused(Refusal::Short);
+    }
+    merged_words::write_merged(t, marks, names, out);
+    Written::Entries(n)
+}
+
+// Merged words: a word per merged state, bit k the truth of node k if that is the root or stands under it.
+pub fn merged_words(file: &[u8], out: &mut [u32]) -> Written
+    ensures answer { λ r. ⌜ Answered (mergedOutcome (now (file .entry)) (length (now (out .entry)))) r (now (out .entry)) (now (out .exit)) ⌝ }
+    ensures meaning { λ r. ⌜ (writtenNumber r ≡ 0 → Holds (MergedMeans (now (out .exit))) (now (file .entry))) ⌝ }
+{
+    let reading = reader::read(file);
+    let outcome = reading.outcome;
+    match outcome {
+        Outcome::Refused(cause) => Written::Refused(cause),
+        Outcome::Accepted => {
+            let t = reading.instrument;
+            write_short(t, out)
         }
     }
 }
