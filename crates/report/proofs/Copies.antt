@@ -5,13 +5,18 @@ use lib.ListN.{length, getD, replicate}
 use lib.Seq.{sets, ext-getD}
 use native.Mathlib.Omega.{arith}
 use Prim.Native.Nat.{ℕ, _≤_}
+use Rattle.meaning.specs.File.Grammar.{Contents, instrumentOf, limits}
+use Rattle.meaning.specs.File.Promise.{Promised}
 use Rattle.meaning.specs.Reference.Answers.{listBelow, entries, lentAfter}
 use Rattle.meaning.proofs.Basic.Entries.{list-length, list-at, list-same, lent-sets}
+use Rattle.answers.specs.Outcomes.{Judgement}
+use Rattle.answers.specs.Listing.{refusalLine, listingText}
 use Rattle.instrument.proofs.Rows.{filled-at}
 use Rattle.partitions.specs.Progress.{namesIn}
 use Rattle.text.specs.declared.Text.{Text}
 use Rattle.text.specs.Texts.{textOf}
 use Rattle.report.specs.Report.{Spelled}
+use Rattle.report.proofs.Lengths.{refusal-line-short, listing-length}
 
 -- a list is its entries
 list-of : (l : List ℕ) → listBelow (length l) (λ x. getD l x 0) ≡ l
@@ -37,3 +42,11 @@ pub copied : (text : Text) (l : List ℕ) → Spelled text l → (old : List ℕ
     → sets old 0 (namesIn (text .bytes) (text .count)) ≡ lentAfter (entries l) old
 copied text l s old h =
     ap (λ vs. sets old 0 vs) (spelled-list text l s) ∙ lent-sets l old (omega (arith, spelled-count text l s))
+
+-- the listing and a refusal's line are such texts
+pub listing-spelled : (k : Contents) → Promised limits k → (j : Judgement) (text : Text) → text ≡ textOf (listingText (instrumentOf k) j)
+    → Spelled text (listingText (instrumentOf k) j)
+listing-spelled k p j text e = record { same = e; short = listing-length k p j }
+
+pub refusal-spelled : (r : ℕ) (text : Text) → text ≡ textOf (refusalLine r) → Spelled text (refusalLine r)
+refusal-spelled r text e = record { same = e; short = omega (arith, refusal-line-short r) }

@@ -5,11 +5,10 @@ use mathlib.Core.List.{List, [], _++_, append-assoc}
 use native.Mathlib.Numerals.{add-one}
 use Prim.Native.Nat.{ℕ, _+_}
 use Rattle.meaning.specs.Reference.Answers.{joinBelow}
-use Rattle.answers.specs.Listing.{decimal, refusedLabel, lineEnd, verdictWord, stageWord, refusalLine}
+use Rattle.answers.specs.Listing.{decimal, refusedLabel, lineEnd, refusalLine}
 use Rattle.text.specs.declared.Text.{Text}
 use Rattle.text.specs.Texts.{textOf, Holds}
 use Rattle.text.proofs.Texts.{then}
-use Rattle.report.specs.Report.{verdictFrom, stageFrom}
 
 -- a part after three others
 pub then-after : {a b c : Text} (l m n : List ℕ) {o : List ℕ} → Holds a b (l ++ (m ++ n)) → Holds b c o → Holds a c (l ++ (m ++ (n ++ o)))
@@ -20,12 +19,9 @@ then-after {a} {b} {c} l m n {o} h g =
 pub joined-more : {a b c : Text} (f : ℕ → List ℕ) (i : ℕ) → Holds a b (joinBelow i f) → Holds b c (f i) → Holds a c (joinBelow (i + 1) f)
 joined-more {a} {b} {c} f i h g = rw (add-one i) (then h g)
 
--- words by a flag
-pub verdict-is : {a b : Text} (h f : Bool) → h ≡ f → Holds a b (verdictWord (verdictFrom f)) → Holds a b (verdictWord (verdictFrom h))
-verdict-is {a} {b} h f e g = subst (λ x. Holds a b (verdictWord (verdictFrom x))) (sym e) g
-
-pub stage-is : {a b : Text} (m f : Bool) → m ≡ f → Holds a b (stageWord (stageFrom f)) → Holds a b (stageWord (stageFrom m))
-stage-is {a} {b} m f e g = subst (λ x. Holds a b (stageWord (stageFrom x))) (sym e) g
+-- a word chosen by a flag
+pub by-flag : {a b : Text} (word : Bool → List ℕ) (h f : Bool) → h ≡ f → Holds a b (word f) → Holds a b (word h)
+by-flag {a} {b} word h f e g = subst (λ x. Holds a b (word x)) (sym e) g
 
 pub refusal-is : {a b : Text} (r : ℕ) → Holds a b (refusedLabel ++ (decimal r ++ lineEnd)) → Holds a b (refusalLine r)
 unfolding refusalLine

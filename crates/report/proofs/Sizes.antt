@@ -41,5 +41,5 @@ module _ (k : Contents) (p : Promised limits k) where
         arith,
         power-le,
         count-le (components (instrumentOf k)) (λ i. classesBelow (classesAt (instrumentOf k) i) (table (instrumentOf k) i .states)) (λ i l.
-        omega (arith, few-states k p i l, classes-le (classesAt (instrumentOf k) i) (table (instrumentOf k) i .states))),
+            omega (arith, few-states k p i l, classes-le (classesAt (instrumentOf k) i) (table (instrumentOf k) i .states))),
       )

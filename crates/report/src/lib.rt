@@ -8,16 +8,25 @@ ghost use Rattle.meaning.specs.Reference.Answers.{entries, lentAfter};
 ghost use Rattle.answers.specs.Listing.{listingText, refusalLine};
 ghost use Rattle.text.specs.Texts.{textOf};
 ghost use Rattle.report.specs.Report.{judgementFrom, Listed, Spelled};
+
+pub mod lines; // lines.rt: each line
+
 use instrument::Instrument;
-use text::Text;
-pub mod lines;
 use lines::class_lines;
 use lines::refusal_line;
 use lines::size_line;
 use lines::verdict_line;
+use text::Text;
 
 // All lines: the verdict with its stage, the class names of every component, and both sizes.
-pub fn listing_text(t: Instrument, names: [[u8; 32]; 4], holds: bool, by_marks: bool, merged: usize, full: usize) -> Text
+pub fn listing_text(
+    t: Instrument,
+    names: [[u8; 32]; 4],
+    holds: bool,
+    by_marks: bool,
+    merged: usize,
+    full: usize,
+) -> Text
     requires { ⌜ ((k : Contents) × Listed t names merged full k) ⌝ }
     ensures { λ r. ⌜ ((k : Contents) → Listed t names merged full k → r ≡ textOf (listingText (instrumentOf k) (judgementFrom holds «by_marks»))) ⌝ }
 {

@@ -1,6 +1,6 @@
 // The lines of the listing, each put at the end of a text (document 01, Verdict and listing). The specs of crate `answers` define their bytes.
 ghost use mathlib.Core.List.{_++_};
-ghost use Prim.Native.Nat.{_+_, _≤_};
+ghost use Prim.Native.Nat.{_+_, _≤_, _<_};
 ghost use lib.ListN.{getD};
 ghost use Rattle.meaning.specs.File.Grammar.{Contents};
 ghost use Rattle.answers.specs.Listing.{decimal, space, lineEnd, verdictWord, stageWord, componentLabel, classesLabel, mergedLabel, ofLabel};
@@ -94,6 +94,15 @@ pub fn class_line(text: Text, c: u32, names: [u8; 32], states: usize) -> Text
     named.word(b"\n")
 }
 
+// The line of component c of an instrument, with these names.
+fn component_line(text: Text, t: Instrument, names: [u8; 32], c: usize) -> Text
+    requires { ⌜ ((k : Contents) × Describes t k) × (c < t .components) × (text .count + 381 ≤ 2048) ⌝ }
+    ensures { λ r. ⌜ Holds text r (classLine c (getD (t .states) c 0) (λ x. getD names x 0)) ⌝ }
+{
+    let states = t.states[c] as usize;
+    class_line(text, c as u32, names, states)
+}
+
 // The class lines of all components.
 pub fn class_lines(text: Text, t: Instrument, names: [[u8; 32]; 4]) -> Text
     requires { ⌜ ((k : Contents) × Describes t k) × (text .count + 1524 ≤ 2048) ⌝ }
@@ -103,8 +112,7 @@ pub fn class_lines(text: Text, t: Instrument, names: [[u8; 32]; 4]) -> Text
     let mut result = text;
     let mut c: usize = 0;
     while c < n {
-        let states = t.states[c] as usize;
-        result = class_line(result, c as u32, names[c], states);
+        result = component_line(result, t, names[c], c);
         c += 1;
     }
     result

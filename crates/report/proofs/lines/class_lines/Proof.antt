@@ -5,7 +5,7 @@ use lib.ListN.{getD}
 use Prim.Native.Nat.{_-_, _≤_}
 use borrow.Author.Needs.{needs}
 use Rattle.answers.specs.Listing.{classLine}
-use Rattle.instrument.proofs.Bounds.{count-bounds, states-bounds}
+use Rattle.instrument.proofs.Bounds.{count-bounds}
 use Rattle.text.specs.Texts.{Holds}
 use Rattle.text.proofs.Texts.{same}
 use Rattle.report.specs.Report.{classLines}
@@ -20,8 +20,8 @@ Inv-loop t names n result₀ c₀ result c = (c ≤ n) × Holds result₀ result
 abbrev μ-loop : tie.MeasureT-loop
 μ-loop t names n result₀ c₀ result c = n - c
 
-few : (s : tie.Start Inv-loop μ-loop) → s .args .t2 .components ≤ 4
-few s = count-bounds (s .args .t2) (s .pre .0 .0) (s .pre .0 .1) .1
+few : (s : tie.Start Inv-loop μ-loop) → s .args .t .components ≤ 4
+few s = count-bounds (s .args .t) (s .pre .0 .0) (s .pre .0 .1) .1
 
 cast-n : tie.Need-cast-n Inv-loop μ-loop
 cast-n c = search needs
@@ -29,36 +29,24 @@ cast-n c = search needs
 loop-holds : tie.Need-loop-holds Inv-loop μ-loop
 loop-holds c = (omega arith, same _)
 
-mul-states : tie.Need-mul-states Inv-loop μ-loop
-mul-states c = omega (arith, few (c .before .before))
+mul-component-line : tie.Need-mul-component-line Inv-loop μ-loop
+mul-component-line c = omega (arith, few (c .before .before .before))
 
-element-copy-out-states : tie.Need-element-copy-out-states Inv-loop μ-loop
-element-copy-out-states c = omega (arith, few (c .before .before))
+array-copy-out-component-line : tie.Need-array-copy-out-component-line Inv-loop μ-loop
+array-copy-out-component-line c = omega (arith, few (c .before .before .before))
 
-cast-states : tie.Need-cast-states Inv-loop μ-loop
-cast-states c = search needs
-
-cast-class-line : tie.Need-cast-class-line Inv-loop μ-loop
-cast-class-line c = omega (arith, few (c .before .before .before))
-
-mul-class-line : tie.Need-mul-class-line Inv-loop μ-loop
-mul-class-line c = omega (arith, few (c .before .before .before))
-
-array-copy-out-class-line : tie.Need-array-copy-out-class-line Inv-loop μ-loop
-array-copy-out-class-line c = omega (arith, few (c .before .before .before))
-
-class-line-requires : tie.Need-class-line-requires Inv-loop μ-loop
-class-line-requires c κs =
-    let l = c .before .before .before in
-    let s = l .before in
-    let d = s .pre .0 .1 in (
-      states-bounds (s .args .t2) (s .pre .0 .0) d (l .loop .c) (c .before .before .loop-test .taken) .1,
+component-line-requires : tie.Need-component-line-requires Inv-loop μ-loop
+component-line-requires c κs =
+    let l = c .before .before in
+    let s = l .before .before in (
+      s .pre .0,
+      omega (arith, c .before .loop-test .taken),
       omega (
         arith,
         few s,
         s .pre .1,
         l .loop .inv .1 .count,
-        described-short (s .args .t2) (s .pre .0 .0) d (l .loop .c) (s .args .t3) (l .loop .inv .0),
+        described-short (s .args .t) (s .pre .0 .0) (s .pre .0 .1) (l .loop .c) (s .args .t3) (l .loop .inv .0),
       ),
     )
 
@@ -70,16 +58,16 @@ loop-less c = omega arith
 
 loop-again : tie.Need-loop-again Inv-loop μ-loop
 loop-again c =
-    let l = c .before .before .before .before in
-    let s = l .before in (
+    let l = c .before .before .before in
+    let s = l .before .before in (
       omega arith,
-      joined-more (λ i. classLine i (getD (s .args .t2 .states) i 0) (λ x. getD (getD (s .args .t3) i []) x 0)) (l .loop .c) (l .loop .inv .1)
-          (c .class-line .ensures),
+      joined-more (λ i. classLine i (getD (s .args .t .states) i 0) (λ x. getD (getD (s .args .t3) i []) x 0)) (l .loop .c) (l .loop .inv .1)
+          (c .component-line .ensures),
     )
 
 returns : tie.Need-returns Inv-loop μ-loop
 returns c =
-    let e : c .before .before .args .t2 .components ≡ c .before .loop .c = omega arith in
+    let e : c .before .before .before .args .t .components ≡ c .before .loop .c = omega arith in
     rw e (c .before .loop .inv .1)
 
 pub class-lines-spec : {M : Type 1} → statement M
@@ -90,13 +78,9 @@ class-lines-spec =
     μ-loop
     cast-n
     loop-holds
-    mul-states
-    element-copy-out-states
-    cast-states
-    cast-class-line
-    mul-class-line
-    array-copy-out-class-line
-    class-line-requires
+    mul-component-line
+    array-copy-out-component-line
+    component-line-requires
     add-c
     loop-less
     loop-again

@@ -1,6 +1,8 @@
 use mathlib.Core.Bool.{true, false}
 use borrow.Author.Needs.{needs}
-use Rattle.report.proofs.Parts.{stage-is}
+use Rattle.answers.specs.Listing.{stageWord}
+use Rattle.report.specs.Report.{stageFrom}
+use Rattle.report.proofs.Parts.{by-flag}
 use Rattle.report.proofs.lines.stage_word.Statement.{statement}
 use Rattle.report.proofs.lines.stage_word.Tie as tie
 
@@ -11,7 +13,7 @@ word-requires : tie.Need-word-requires
 word-requires c κs = search needs
 
 returns : tie.Need-returns
-returns c = stage-is (c .before .before .before .args .by-marks) true (c .before .before .if1 .taken) (c .word .ensures)
+returns c = by-flag (λ h. stageWord (stageFrom h)) (c .before .before .before .args .by-marks) true (c .before .before .if1 .taken) (c .word .ensures)
 
 slice-aggregate-word-2 : tie.Need-slice-aggregate-word-2
 slice-aggregate-word-2 c = search needs
@@ -20,7 +22,7 @@ word-requires-2 : tie.Need-word-requires-2
 word-requires-2 c κs = search needs
 
 returns-2 : tie.Need-returns-2
-returns-2 c = stage-is (c .before .before .before .args .by-marks) false (c .before .before .if1 .left) (c .word2 .ensures)
+returns-2 c = by-flag (λ h. stageWord (stageFrom h)) (c .before .before .before .args .by-marks) false (c .before .before .if1 .left) (c .word2 .ensures)
 
 pub stage-word-spec : {M : Type 1} → statement M
 stage-word-spec =
