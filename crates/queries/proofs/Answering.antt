@@ -7,11 +7,12 @@ use lib.Dec.{T, leb, leb→le, le→leb}
 use lib.ListN.{length}
 use native.Mathlib.Omega.{arith}
 use Prim.Native.Nat.{ℕ, _≤_, _<_}
-use Rattle.meaning.specs.Instrument.{Instrument, Accepted}
+use Rattle.meaning.specs.Instrument.{Instrument, Accepted, components, table}
+use Rattle.meaning.specs.Merged.{mergedCount}
 use Rattle.meaning.specs.File.Parser.{Got, found, fault}
 use Rattle.meaning.specs.File.Number.{choose}
 use Rattle.meaning.specs.File.Grammar.{Contents, instrumentOf, readFile}
-use Rattle.meaning.specs.Reference.Answers.{Outcome, refused, entries, outcomeNumber, lentAfter, fitting}
+use Rattle.meaning.specs.Reference.Answers.{Outcome, refused, entries, outcomeNumber, lentAfter, fitting, fullCount}
 use Rattle.meaning.proofs.Basic.Booleans.{test-eq}
 use Rattle.meaning.proofs.File.Reads.{file-promised}
 use Rattle.meaning.proofs.File.Accepted.{file-accepted}
@@ -24,8 +25,13 @@ use Rattle.reader.specs.declared.Outcome.the-variants as outcomes
 use Rattle.instrument.specs.declared.Instrument as code
 use Rattle.instrument.specs.Layout.{layout}
 use Rattle.instrument.specs.Described.{Describes}
-use Rattle.answers.specs.Outcomes.{after, within}
+use Rattle.answers.specs.Outcomes.{after, within, denied, Reply, Judgement}
+use Rattle.answers.specs.Listing.{listed}
 use Rattle.answers.specs.Means.{Holds}
+use Rattle.merging.specs.Contents.{named}
+use Rattle.partitions.specs.Classes.{classesOf}
+use Rattle.merged_words.proofs.Tables.{size-named}
+use Rattle.report.specs.Report.{Listed}
 use Rattle.queries.specs.declared.written.Written.{Written}
 use Rattle.queries.specs.declared.written.Written.the-variants.{Entries, Refused}
 use Rattle.queries.specs.Written.{writtenNumber, Answered}
@@ -149,3 +155,16 @@ means P words law {file} h old new e =
       fact = subst (λ l. P l (instrumentOf (h .contents))) (sym e)
           (law (instrumentOf (h .contents)) (file-accepted file (h .contents) (h .end) (h .read)) old);
     }
+
+-- the listing: refused as the verdict is, else its text
+pub listed-refused : (I : Instrument) (room : ℕ) (cause : Refusal) (old : List ℕ) → Answered (listed I room (denied (number cause))) (Refused cause) old old
+listed-refused I room cause old = record { number = refl; count = refl; buffer = refl }
+
+pub listed-same : (I : Instrument) (room : ℕ) {i j : Reply Judgement} {r : Written} {old new : List ℕ} → i ≡ j → Answered (listed I room i) r old new
+    → Answered (listed I room j) r old new
+listed-same I room {i} {j} {r} {old} {new} e a = subst (λ j. Answered (listed I room j) r old new) e a
+
+-- what the text is made from
+pub lines-listed : (t : code.Instrument) (k : Contents) → Describes t k → (names : List (List ℕ)) (m f : ℕ) → names ≡ classesOf (instrumentOf k)
+    → m ≡ mergedCount (components (instrumentOf k)) (table (instrumentOf k)) (named names) → f ≡ fullCount (instrumentOf k) → Listed t names m f k
+lines-listed t k d names m f e p q = record { describes = d; named = e; mergedIs = p ∙ size-named t k d names e; fullIs = q }

@@ -8,7 +8,7 @@ use native.Mathlib.Omega.{arith}
 use Prim.Native.Nat.{ℕ, _≤_, _<_}
 use Rattle.meaning.specs.Instrument as meaning
 use Rattle.meaning.specs.Instrument.{Instrument, components, table}
-use Rattle.meaning.specs.Verdict.{Answer, marks, merged}
+use Rattle.meaning.specs.Verdict.{Answer}
 use Rattle.meaning.specs.File.Parser.{Got, found, fault}
 use Rattle.meaning.specs.File.Number.{choose}
 use Rattle.meaning.specs.File.Grammar.{Contents, instrumentOf, readFile}
@@ -28,12 +28,12 @@ use Rattle.instrument.proofs.Bounds.{count-bounds}
 use Rattle.instrument.proofs.Tables.{table-count, table-states}
 use Rattle.merging.specs.Parts.{OfComponents}
 use Rattle.merged_words.proofs.Lookup.{states-listed}
+use Rattle.report.specs.Report.{judgementFrom}
 use Rattle.verdict.specs.Answers.{answerOf}
 use Rattle.verdict.specs.declared.Verdict.the-variants as judge
 use Rattle.answers.specs.Outcomes.{Reply, given, denied, replyAfter, asksState, lookedUp, lookupOf, Judgement, judgement, verdictOf}
 use Rattle.answers.specs.Means.{Holds, LookupMeans, VerdictMeans}
 use Rattle.answers.proofs.Starts.{lookup-means, verdict-means}
-use Rattle.queries.specs.Told.{verdictFrom}
 use Rattle.queries.proofs.Answering.{Found, refused-fault, leb-true, leb-false}
 
 -- a refused file, and an accepted one
@@ -136,11 +136,11 @@ lookup-holds {file} {t} h s b e =
     }
 
 -- the verdict's cases
-pub by-marks : (h : Bool) → given (record { verdict = verdictFrom h; stage = marks }) ≡ judgement (answerOf (judge.Marks h))
+pub by-marks : (h : Bool) → given (judgementFrom h true) ≡ judgement (answerOf (judge.Marks h))
 by-marks true = refl
 by-marks false = refl
 
-pub by-merging : (h : Bool) → given (record { verdict = verdictFrom h; stage = merged }) ≡ judgement (answerOf (judge.Merged h))
+pub by-merging : (h : Bool) → given (judgementFrom h false) ≡ judgement (answerOf (judge.Merged h))
 by-merging true = refl
 by-merging false = refl
 

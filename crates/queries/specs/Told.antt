@@ -1,8 +1,8 @@
 -- The answers to the lookup and the verdict, in document 01's words.
 use mathlib.Core.Bool.{Bool, true, false}
-use Rattle.meaning.specs.Verdict.{Verdict, holds, fails, marks, merged}
 use Rattle.cursor.specs.Answers.{number}
 use Rattle.answers.specs.Outcomes.{Reply, given, denied, Judgement}
+use Rattle.report.specs.Report.{judgementFrom}
 use Rattle.queries.specs.declared.told.Looked as looked
 use Rattle.queries.specs.declared.told.Judged as judged
 
@@ -11,13 +11,8 @@ abbrev pub lookedReply : looked.Looked → Reply Bool
 lookedReply (looked.the-variants.Root b) = given b
 lookedReply (looked.the-variants.Refused r) = denied (number r)
 
--- "holds" if so, else "fails"
-abbrev pub verdictFrom : Bool → Verdict
-verdictFrom true = holds
-verdictFrom false = fails
-
 -- the verdict with its stage, or the refusal's number
 abbrev pub judgedReply : judged.Judged → Reply Judgement
-judgedReply (judged.the-variants.Marks h) = given (record { verdict = verdictFrom h; stage = marks })
-judgedReply (judged.the-variants.Merged h) = given (record { verdict = verdictFrom h; stage = merged })
+judgedReply (judged.the-variants.Marks h) = given (judgementFrom h true)
+judgedReply (judged.the-variants.Merged h) = given (judgementFrom h false)
 judgedReply (judged.the-variants.Refused r) = denied (number r)

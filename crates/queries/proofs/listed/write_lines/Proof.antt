@@ -1,11 +1,9 @@
-use mathlib.Core.Path.{_∙_}
 use native.Mathlib.Omega.{arith}
 use Rattle.meaning.specs.File.Grammar.{instrumentOf}
-use Rattle.merged_words.proofs.Tables.{size-named}
 use Rattle.answers.specs.Listing.{listingText}
 use Rattle.report.specs.Report.{judgementFrom}
 use Rattle.report.proofs.Copies.{listing-spelled, spelled-count}
-use Rattle.queries.proofs.Answering.{too-short, written}
+use Rattle.queries.proofs.Answering.{too-short, written, lines-listed}
 use borrow.Author.Needs.{needs}
 use Rattle.queries.proofs.listed.write_lines.Statement.{statement}
 use Rattle.queries.proofs.listed.write_lines.Tie as tie
@@ -27,13 +25,8 @@ listing-text-requires c κs =
     let n = m .before in
     let s = n .before .before in
     let a = s .args in
-    let e = n .all-classes .ensures k d in
-    let listed = record {
-      describes = d;
-      named = e;
-      mergedIs = m .merged-count .ensures k d ∙ size-named (a .t) k d (n .all-classes .result) e;
-      fullIs = f .combined-count .ensures k d;
-    } in
+    let listed = lines-listed (a .t) k d (n .all-classes .result) (m .merged-count .result) (f .combined-count .result) (n .all-classes .ensures k d)
+    (m .merged-count .ensures k d) (f .combined-count .ensures k d) in
     (k, listed)
 
 returns : tie.Need-returns
@@ -45,14 +38,9 @@ returns c =
     let n = m .before in
     let s = n .before .before in
     let a = s .args in
-    let e = n .all-classes .ensures k d in
-    let listed = record {
-      describes = d;
-      named = e;
-      mergedIs = m .merged-count .ensures k d ∙ size-named (a .t) k d (n .all-classes .result) e;
-      fullIs = f .combined-count .ensures k d;
-    } in
-    let j = judgementFrom (a .holds) (a .«by_marks») in
+    let listed = lines-listed (a .t) k d (n .all-classes .result) (m .merged-count .result) (f .combined-count .result) (n .all-classes .ensures k d)
+    (m .merged-count .ensures k d) (f .combined-count .ensures k d) in
+    let j = judgementFrom (a .holds) (a .by-marks) in
     let sp = listing-spelled k (d .promised) j (g .listing-text .result) (g .listing-text .ensures k listed) in
     too-short (listingText (instrumentOf k) j) (a .out .now) (omega (arith, spelled-count _ _ sp))
 
@@ -65,14 +53,9 @@ copy-text-requires c κs =
     let n = m .before in
     let s = n .before .before in
     let a = s .args in
-    let e = n .all-classes .ensures k d in
-    let listed = record {
-      describes = d;
-      named = e;
-      mergedIs = m .merged-count .ensures k d ∙ size-named (a .t) k d (n .all-classes .result) e;
-      fullIs = f .combined-count .ensures k d;
-    } in
-    let j = judgementFrom (a .holds) (a .«by_marks») in
+    let listed = lines-listed (a .t) k d (n .all-classes .result) (m .merged-count .result) (f .combined-count .result) (n .all-classes .ensures k d)
+    (m .merged-count .ensures k d) (f .combined-count .ensures k d) in
+    let j = judgementFrom (a .holds) (a .by-marks) in
     ((listingText (instrumentOf k) j, listing-spelled k (d .promised) j (g .listing-text .result) (g .listing-text .ensures k listed)), omega arith)
 
 same-length : tie.Need-same-length
@@ -87,16 +70,11 @@ returns-2 c =
     let n = m .before in
     let s = n .before .before in
     let a = s .args in
-    let e = n .all-classes .ensures k d in
-    let listed = record {
-      describes = d;
-      named = e;
-      mergedIs = m .merged-count .ensures k d ∙ size-named (a .t) k d (n .all-classes .result) e;
-      fullIs = f .combined-count .ensures k d;
-    } in
-    let j = judgementFrom (a .holds) (a .«by_marks») in
+    let listed = lines-listed (a .t) k d (n .all-classes .result) (m .merged-count .result) (f .combined-count .result) (n .all-classes .ensures k d)
+    (m .merged-count .ensures k d) (f .combined-count .ensures k d) in
+    let j = judgementFrom (a .holds) (a .by-marks) in
     let sp = listing-spelled k (d .promised) j (g .listing-text .result) (g .listing-text .ensures k listed) in
-    written (listingText (instrumentOf k) j) (a .out .now) _ _ (spelled-count _ _ sp) (omega (arith, spelled-count _ _ sp))
+    written (listingText (instrumentOf k) j) (a .out .now) _ _ (spelled-count _ _ sp) (omega (arith, c .before .before .before .before .if1 .left, spelled-count _ _ sp))
     (c .before .before .copy-text .ensures (listingText (instrumentOf k) j) sp)
 
 pub write-lines-spec : {M : Type 1} → statement M

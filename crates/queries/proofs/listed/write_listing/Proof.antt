@@ -1,62 +1,86 @@
+use mathlib.Core.Path.{sym, subst, ap, _∙_}
+use lib.ListN.{length}
+use Rattle.meaning.specs.File.Grammar.{instrumentOf}
+use Rattle.cursor.specs.declared.Refusal.the-variants.{Clash, MergedSize}
+use Rattle.verdict.specs.Answers.{answerOf}
+use Rattle.answers.specs.Outcomes.{judgement}
+use Rattle.answers.specs.Listing.{listed}
+use Rattle.queries.specs.declared.written.Written.the-variants.{Refused}
+use Rattle.queries.specs.Written.{Answered}
+use Rattle.queries.proofs.Answering.{listed-refused, listed-same}
+use Rattle.queries.proofs.Telling.{by-marks, by-merging}
 use borrow.Author.Needs.{needs}
 use Rattle.queries.proofs.listed.write_listing.Statement.{statement}
 use Rattle.queries.proofs.listed.write_listing.Tie as tie
-use Rattle.queries.proofs.listed.write_listing.Reads as reads
-use Rattle.queries.proofs.listed.write_listing.Lts as lts
-use Rattle.queries.proofs.listed.write_lines.Reads as write-lines-reads
-use Rattle.verdict.proofs.judge.Reads as judge-reads
 
--- src/listed.rt:42:11
 judge-requires : tie.Need-judge-requires
 judge-requires c κs = search needs
 
--- src/listed.rt:43:44
 enum-told : tie.Need-enum-told
 enum-told c = search needs
 
--- src/listed.rt:44:48
 enum-told-2 : tie.Need-enum-told-2
 enum-told-2 c = search needs
 
--- src/listed.rt:45:24
 enum-known-holds : tie.Need-enum-known-holds
 enum-known-holds c = search needs
 
--- src/listed.rt:45:34
 write-lines-requires : tie.Need-write-lines-requires
 write-lines-requires c κs = search needs
 
--- src/listed.rt:46:25
 enum-known-holds-2 : tie.Need-enum-known-holds-2
 enum-known-holds-2 c = search needs
 
--- src/listed.rt:46:35
 write-lines-requires-2 : tie.Need-write-lines-requires-2
 write-lines-requires-2 c κs = search needs
 
--- src/listed.rt:38:1
 returns : tie.Need-returns
-returns c = ?
+returns c =
+    λ k d.
+    let v = c .before .before in
+    let old = v .before .before .args .out .now in
+    let I = instrumentOf k in
+    subst (λ a. Answered (listed I (length old) (judgement a)) (Refused Clash) old old) (ap answerOf (sym (c .enum-told .given .1)) ∙ v .judge .ensures k d)
+    (listed-refused I (length old) Clash old)
 
--- src/listed.rt:38:1
 returns-2 : tie.Need-returns-2
-returns-2 c = ?
+returns-2 c =
+    λ k d.
+    let v = c .before .before in
+    let old = v .before .before .args .out .now in
+    let I = instrumentOf k in
+    subst (λ a. Answered (listed I (length old) (judgement a)) (Refused MergedSize) old old) (ap answerOf (sym (c .enum-told2 .given .1)) ∙ v .judge .ensures k d)
+    (listed-refused I (length old) MergedSize old)
 
--- src/listed.rt:38:1
 same-length : tie.Need-same-length
 same-length c = search needs
 
--- src/listed.rt:38:1
 returns-3 : tie.Need-returns-3
-returns-3 c = ?
+returns-3 c =
+    λ k d.
+    let w = c .before .before in
+    let h = w .before .before .before in
+    let v = h .before .before in
+    let old = v .before .before .args .out .now in
+    let I = instrumentOf k in
+    listed-same I (length old)
+    (by-marks (h .holds .given .0 .0) ∙ ap (λ v. judgement (answerOf v)) (sym (h .holds .given .1)) ∙ ap judgement (v .judge .ensures k d))
+    (w .write-lines .ensures k d)
 
--- src/listed.rt:38:1
 same-length-2 : tie.Need-same-length-2
 same-length-2 c = search needs
 
--- src/listed.rt:38:1
 returns-4 : tie.Need-returns-4
-returns-4 c = ?
+returns-4 c =
+    λ k d.
+    let w = c .before .before in
+    let h = w .before .before .before in
+    let v = h .before .before in
+    let old = v .before .before .args .out .now in
+    let I = instrumentOf k in
+    listed-same I (length old)
+    (by-merging (h .holds2 .given .0 .0) ∙ ap (λ v. judgement (answerOf v)) (sym (h .holds2 .given .1)) ∙ ap judgement (v .judge .ensures k d))
+    (w .write-lines2 .ensures k d)
 
 pub write-listing-spec : {M : Type 1} → statement M
 write-listing-spec =
