@@ -22,15 +22,15 @@ fn write_full(t: Instrument, out: &mut [u32]) -> Written
     requires { ⌜ ((k : Contents) × Describes t k) ⌝ }
     ensures { λ r. ⌜ ((k : Contents) → Describes t k → Answered (within (fullCount (instrumentOf k)) 11 (fitting (length (now (out .entry))) (fullWords (instrumentOf k)))) r (now (out .entry)) (now (out .exit))) ⌝ }
 {
-    let n = combination::combined_count(t);
-    if 4096 < n {
+    let states = combination::combined_count(t);
+    if 4096 < states {
         return Written::Refused(Refusal::FullSize);
     }
-    if out.len() < n {
+    if out.len() < states {
         return Written::Refused(Refusal::Short);
     }
     truth::write_truth(t, [[0u32; 24]; 4], out);
-    Written::Entries(n)
+    Written::Entries(states)
 }
 
 // The full way: a word per combined state, bit k the truth of node k.
@@ -54,12 +54,12 @@ fn write_marked(t: Instrument, out: &mut [u32]) -> Written
     requires { ⌜ ((k : Contents) × Describes t k) ⌝ }
     ensures { λ r. ⌜ ((k : Contents) → Describes t k → Answered (fitting (length (now (out .entry))) (markWords (instrumentOf k))) r (now (out .entry)) (now (out .exit))) ⌝ }
 {
-    let n = 2 * t.components as usize * t.nodecount as usize;
-    if out.len() < n {
+    let marked = 2 * t.components as usize * t.nodecount as usize;
+    if out.len() < marked {
         return Written::Refused(Refusal::Short);
     }
     marks::nodes::write_marks(t, out);
-    Written::Entries(n)
+    Written::Entries(marked)
 }
 
 // Marks: two words for every component and node, PASS then FAIL, components outermost.
@@ -83,12 +83,12 @@ fn write_named(t: Instrument, out: &mut [u8]) -> Written
     requires { ⌜ ((k : Contents) × Describes t k) ⌝ }
     ensures { λ r. ⌜ ((k : Contents) → Describes t k → Answered (fitting (length (now (out .entry))) (classNames (instrumentOf k))) r (now (out .entry)) (now (out .exit))) ⌝ }
 {
-    let n = partitions::state_sum(t);
-    if out.len() < n {
+    let named = partitions::state_sum(t);
+    if out.len() < named {
         return Written::Refused(Refusal::Short);
     }
     partitions::write_classes(t, out);
-    Written::Entries(n)
+    Written::Entries(named)
 }
 
 // Classes: the name of every state's class, one byte per state, components in order.
@@ -114,15 +114,15 @@ fn write_short(t: Instrument, out: &mut [u32]) -> Written
 {
     let marks = marks::nodes::all_marks(t);
     let names = partitions::marked_classes(t, marks);
-    let n = merging::merged_count(t, names);
-    if 4096 < n {
+    let merged = merging::merged_count(t, names);
+    if 4096 < merged {
         return Written::Refused(Refusal::MergedSize);
     }
-    if out.len() < n {
+    if out.len() < merged {
         return Written::Refused(Refusal::Short);
     }
     merged_words::write_merged(t, marks, names, out);
-    Written::Entries(n)
+    Written::Entries(merged)
 }
 
 // Merged words: a word per merged state, bit k the truth of node k if that is the root or stands under it.

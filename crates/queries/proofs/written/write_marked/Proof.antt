@@ -11,17 +11,17 @@ use Rattle.queries.proofs.Answering.{too-short, written}
 use Rattle.queries.proofs.written.write_marked.Statement.{statement}
 use Rattle.queries.proofs.written.write_marked.Tie as tie
 
-cast-n : tie.Need-cast-n
-cast-n c = let s = c .before .before in omega (arith, count-bounds (s .args .t) (s .pre .0) (s .pre .1) .1)
+cast-marked : tie.Need-cast-marked
+cast-marked c = let s = c .before .before in omega (arith, count-bounds (s .args .t) (s .pre .0) (s .pre .1) .1)
 
-mul-n : tie.Need-mul-n
-mul-n c = let s = c .before .before in omega (arith, count-bounds (s .args .t) (s .pre .0) (s .pre .1) .1)
+mul-marked : tie.Need-mul-marked
+mul-marked c = let s = c .before .before in omega (arith, count-bounds (s .args .t) (s .pre .0) (s .pre .1) .1)
 
-cast-n-2 : tie.Need-cast-n-2
-cast-n-2 c = let s = c .before .before .before in omega (arith, node-bounds (s .args .t) (s .pre .0) (s .pre .1) .1)
+cast-marked-2 : tie.Need-cast-marked-2
+cast-marked-2 c = let s = c .before .before .before in omega (arith, node-bounds (s .args .t) (s .pre .0) (s .pre .1) .1)
 
-mul-n-2 : tie.Need-mul-n-2
-mul-n-2 c =
+mul-marked-2 : tie.Need-mul-marked-2
+mul-marked-2 c =
     let s = c .before .before .before in
     let t = s .args .t in
     let few : 2 * t .components ≤ 8 = omega (arith, count-bounds t (s .pre .0) (s .pre .1) .1) in
@@ -48,4 +48,4 @@ returns-2 c = λ k d.
 pub write-marked-spec : {M : Type 1} → statement M
 write-marked-spec =
     tie.close
-    (tie.spec cast-n mul-n cast-n-2 mul-n-2 returns write-marks-requires same-length returns-2)
+    (tie.spec cast-marked mul-marked cast-marked-2 mul-marked-2 returns write-marks-requires same-length returns-2)
