@@ -1,2 +1,1 @@
-// Document 01's meaning as definitions (specs/) and the theorems about them (proofs/). No engine stands here; the one function ties the
-// crate's definitions to a running program.
+// Document 01's meaning as definitions (specs/) and the theorems about them (proofs/). No function stands here: engines are crates of their own.
