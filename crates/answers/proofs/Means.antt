@@ -25,14 +25,13 @@ use Rattle.meaning.specs.Reference.Answers.{mergedSize, mergedWord, mergedWords
 use Rattle.meaning.specs.Reference.Answers.{listBelow, joinBelow, entries, lentAfter, fullWord, fullWords, fullCount, passWord, failWord, markWords, classesAt, classNames}
 use Rattle.meaning.specs.Reference.Marks.{passB, failB}
 use Rattle.meaning.specs.Reference.Truth.{truthB}
-use Rattle.meaning.proofs.Basic.Entries.{list-length, list-at, join-length}
+use Rattle.meaning.proofs.Basic.Entries.{list-length, list-at, join-length, join-fits, join-at, lent-at}
 use Rattle.meaning.proofs.Basic.Decides.{Decides}
 use Rattle.meaning.proofs.Basic.Booleans.{and-in, and-l, and-r}
 use Rattle.meaning.proofs.File.Nodes.{beneath-in, beneath-out, beneath-le}
 use Rattle.meaning.proofs.Meaning.Index.{index-lt, index-same}
 use Rattle.meaning.proofs.Claims.{full-01, described-01, classes-01, computed-beside, merged-01, merged-bits-01, merged-state-01, merged-index-01}
 use Rattle.answers.specs.Means.{FullMeans, MarksMean, ClassesMean, MergedMeans, offset}
-use Rattle.answers.proofs.Entries.{join-fits, join-at, lent-at}
 
 -- a set below n that a test makes
 pub built-iff : (n : ℕ) (f : ℕ → Bool) (P : ℕ → Type 0) → ((x : ℕ) → x < n → T (f x) ↔ P x) → (x : ℕ) → T (has (built n f) x) ↔ ((x < n) × P x)
@@ -206,9 +205,11 @@ module _ (I : Instrument) (accepted : Accepted I) (old : List ℕ) where
             λ h.
                 let q = has-built-lt nodeCount (bit (at s)) k h in
                 let b = subst T (has-built nodeCount (bit (at s)) k q) h in
-                let u = beneath-out (I .nodes) (suc (rootNode I)) k (rootNode I) (and-l (underB k) (mergedBit k (at s)) b) in
-                (u, merged-01 I accepted k u s c m .0
-                (merged-bits-01 I accepted k c .0 (subst (λ x. T (mergedBit k x)) e (and-r (underB k) (mergedBit k (at s)) b)))),
+                let u = beneath-out (I .nodes) (suc (rootNode I)) k (rootNode I) (and-l (underB k) (mergedBit k (at s)) b) in (
+                  u,
+                  merged-01 I accepted k u s c m .0
+                      (merged-bits-01 I accepted k c .0 (subst (λ x. T (mergedBit k x)) e (and-r (underB k) (mergedBit k (at s)) b))),
+                ),
             λ h.
                 let q : k < nodeCount = beneath-lt k (h .0) in
                 subst T (sym (has-built nodeCount (bit (at s)) k q))

@@ -45,11 +45,14 @@ module _ {X : Type 0} where
   answer-same : (p f r p′ f′ r′ : X → Bool) (m : Bool) (xs : List X) → All (λ x. (p x ≡ p′ x) × (f x ≡ f′ x) × (r x ≡ r′ x)) xs
       → answerB p f r m xs ≡ answerB p′ f′ r′ m xs
   answer-same p f r p′ f′ r′ m xs h =
-      rw (any-of-same (λ x. p x && f x) (λ x. p′ x && f′ x) xs (all-map (λ x e. ap₂ (λ a b. a && b) (e .0) (e .1)) xs h),
-      any-of-same f f′ xs (all-map (λ x e. e .1) xs h), all-of-same p p′ xs (all-map (λ x e. e .0) xs h),
-      all-of-same r r′ xs (all-map (λ x e. e .2) xs h)) refl
+      rw (
+        any-of-same (λ x. p x && f x) (λ x. p′ x && f′ x) xs (all-map (λ x e. ap₂ (λ a b. a && b) (e .0) (e .1)) xs h),
+        any-of-same f f′ xs (all-map (λ x e. e .1) xs h),
+        all-of-same p p′ xs (all-map (λ x e. e .0) xs h),
+        all-of-same r r′ xs (all-map (λ x e. e .2) xs h),
+      ) refl
 
-module _ (I : Instrument) (accepted : Accepted I) where
+module _ (I : Instrument) where
   abbrev n : ℕ
   n = components I
 
@@ -73,47 +76,48 @@ module _ (I : Instrument) (accepted : Accepted I) where
     fail-same : hasFailB n S κ ρ s ≡ hasFailB n S κ ρ u
     fail-same = any-same n (λ i. failB (S i) (κ i) ρ (s i)) (λ i. failB (S i) (κ i) ρ (u i)) (λ i l. ap (failB (S i) (κ i) ρ) (e i l))
 
-    lookup-same : lookupB n S cls κ (high n S) (I .signals) ρ s ≡ lookupB n S cls κ (high n S) (I .signals) ρ u
+    pub lookup-same : lookupB n S cls κ (high n S) (I .signals) ρ s ≡ lookupB n S cls κ (high n S) (I .signals) ρ u
     lookup-same =
         ap (mergedB n S cls κ (high n S) (I .signals) ρ)
         (index-same n (mergedSizes n S cls) (classNumbers n S cls s) (classNumbers n S cls u) (λ i l. ap (classNumber (cls i)) (e i l)))
 
-  -- the combined state of a list of numbers: each number, or what is left of it by the state count where it is too large
-  abbrev stateOf : List ℕ → State n S
-  stateOf l = record { at = λ i. getD l i 0 % S i .states; ok = λ i k. mod-lt (getD l i 0) (accepted .well-formed .some i k) }
+  module _ (accepted : Accepted I) where
+    -- the combined state of a list of numbers: each number, or what is left of it by the state count where it is too large
+    abbrev stateOf : List ℕ → State n S
+    stateOf l = record { at = λ i. getD l i 0 % S i .states; ok = λ i k. mod-lt (getD l i 0) (accepted .well-formed .some i k) }
 
-  own : (l : List ℕ) → ((i : ℕ) → i < n → getD l i 0 < S i .states) → (i : ℕ) → i < n → stateOf l .at i ≡ getD l i 0
-  own l h i k = mod-eq-of-lt (h i k)
+    own : (l : List ℕ) → ((i : ℕ) → i < n → getD l i 0 < S i .states) → (i : ℕ) → i < n → stateOf l .at i ≡ getD l i 0
+    own l h i k = mod-eq-of-lt (h i k)
 
-  pub lookup-means : (asked : List ℕ) → ((i : ℕ) → i < n → getD asked i 0 < S i .states) → LookupMeans asked (lookedUp I asked) I
-  lookup-means asked h =
-      record {
-        state = stateOf asked;
-        is = own asked h;
-        truth = subst (λ b. T b ↔ Truth n S (high n S) ρ (stateOf asked)) (lookup-same (stateOf asked .at) (λ i. getD asked i 0) (own asked h))
-            (lookup-01 I accepted (stateOf asked));
-      }
+    pub lookup-means : (asked : List ℕ) → ((i : ℕ) → i < n → getD asked i 0 < S i .states) → LookupMeans asked (lookedUp I asked) I
+    lookup-means asked h =
+        record {
+          state = stateOf asked;
+          is = own asked h;
+          truth = subst (λ b. T b ↔ Truth n S (high n S) ρ (stateOf asked)) (lookup-same (stateOf asked .at) (λ i. getD asked i 0) (own asked h))
+              (lookup-01 I accepted (stateOf asked));
+        }
 
-  -- the verdict on the starts as they are written is that on their combined states
-  written : verdictB n S κ ρ 4096 (I .signals) (high n S) (λ l. stateOf l .at) (I .starts) ≡ verdictOf I
-  written =
-      answer-same (λ l. hasPassB n S κ ρ (stateOf l .at)) (λ l. hasFailB n S κ ρ (stateOf l .at))
-      (λ l. lookupB n S cls κ (high n S) (I .signals) ρ (stateOf l .at)) (λ l. hasPassB n S κ ρ (λ i. getD l i 0))
-      (λ l. hasFailB n S κ ρ (λ i. getD l i 0)) (λ l. lookupB n S cls κ (high n S) (I .signals) ρ (λ i. getD l i 0)) (leb (mergedSize I) 4096)
-      (I .starts)
-      (all-map (λ l h.
-      let e = own l (h .1) in
-      (pass-same (stateOf l .at) (λ i. getD l i 0) e, fail-same (stateOf l .at) (λ i. getD l i 0) e, lookup-same (stateOf l .at) (λ i. getD l i 0) e))
-      (I .starts) (accepted .starts))
+    -- the verdict on the starts as they are written is that on their combined states
+    written : verdictB n S κ ρ 4096 (I .signals) (high n S) (λ l. stateOf l .at) (I .starts) ≡ verdictOf I
+    written =
+        answer-same (λ l. hasPassB n S κ ρ (stateOf l .at)) (λ l. hasFailB n S κ ρ (stateOf l .at))
+        (λ l. lookupB n S cls κ (high n S) (I .signals) ρ (stateOf l .at)) (λ l. hasPassB n S κ ρ (λ i. getD l i 0))
+        (λ l. hasFailB n S κ ρ (λ i. getD l i 0)) (λ l. lookupB n S cls κ (high n S) (I .signals) ρ (λ i. getD l i 0)) (leb (mergedSize I) 4096)
+        (I .starts)
+        (all-map (λ l h.
+        let e = own l (h .1) in
+        (pass-same (stateOf l .at) (λ i. getD l i 0) e, fail-same (stateOf l .at) (λ i. getD l i 0) e, lookup-same (stateOf l .at) (λ i. getD l i 0) e))
+        (I .starts) (accepted .starts))
 
-  pub verdict-means : (j : Judgement) → verdictOf I ≡ judged (j .verdict) (j .stage) → VerdictMeans j I
-  verdict-means j e =
-      record {
-        start = stateOf;
-        is = all-map (λ l h. own l (h .1)) (I .starts) (accepted .starts);
-        right =
-            let good = accepted .well-formed in
-            subst (Right (λ l. HasPass n S κ ρ (stateOf l .at)) (λ l. HasFail n S κ ρ (stateOf l .at)) (λ l. Truth n S (high n S) ρ (stateOf l))
-            (I .starts) (mergedSize I ≤ 4096)) (written ∙ e)
-            (verdict-right n S (I .signals) good (high n S) κ (whole-fit n S (I .signals) good) ρ 4096 stateOf (I .starts));
-      }
+    pub verdict-means : (j : Judgement) → verdictOf I ≡ judged (j .verdict) (j .stage) → VerdictMeans j I
+    verdict-means j e =
+        record {
+          start = stateOf;
+          is = all-map (λ l h. own l (h .1)) (I .starts) (accepted .starts);
+          right =
+              let good = accepted .well-formed in
+              subst (Right (λ l. HasPass n S κ ρ (stateOf l .at)) (λ l. HasFail n S κ ρ (stateOf l .at)) (λ l. Truth n S (high n S) ρ (stateOf l))
+              (I .starts) (mergedSize I ≤ 4096)) (written ∙ e)
+              (verdict-right n S (I .signals) good (high n S) κ (whole-fit n S (I .signals) good) ρ 4096 stateOf (I .starts));
+        }

@@ -9,19 +9,11 @@ use native.Mathlib.Omega.{arith}
 use native.Mathlib.Nat.{pow-suc}
 use Prim.Native.Nat.{ℕ, zero, suc, _+_, _-_, _*_, _^_, _≤_, _<_}
 use Rattle.meaning.specs.Reference.Tests.{allBelow}
-use Rattle.meaning.proofs.Basic.Booleans.{and-in, and-l, and-r, test-eq}
+use Rattle.meaning.proofs.Basic.Booleans.{and-in, and-l, and-r, is-true, is-false}
 use Rattle.meaning.proofs.Basic.Bounded.{all-out, last-or}
 use Rattle.arguments.specs.declared.Argument.{Argument}
 use Rattle.arguments.specs.declared.Argument.the-variants.{Number, Unusable}
 use Rattle.arguments.specs.Decimal.{digitAt, valueOf, usable, argumentOf, Digits}
-
-yes-is : (b : Bool) → T b → b ≡ true
-yes-is true h = refl
-yes-is false h = absurd h
-
-no-is : (b : Bool) → (T b → ⊥) → b ≡ false
-no-is true h = absurd (h tt)
-no-is false h = refl
 
 ten-up : (n i : ℕ) → i < suc n → 10 ^ i ≤ 10 ^ n
 ten-up zero i l = let e : i ≡ 0 = omega arith in rw e (omega arith)
@@ -45,7 +37,7 @@ module _ (text : List ℕ) where
         some = d .some;
         small = omega (arith, d .small, pow-suc 10 i);
         value = ap (λ w. 10 * w + (getD text i 0 - 48)) (d .value);
-        all = rw (yes-is (digitAt text i) (and-in (leb 48 (getD text i 0)) (leb (getD text i 0) 57) (le→leb 48 (getD text i 0) lo) (le→leb (getD text i 0) 57 hi)), d .all) refl;
+        all = rw (is-true (digitAt text i) (and-in (leb 48 (getD text i 0)) (leb (getD text i 0) 57) (le→leb 48 (getD text i 0) lo) (le→leb (getD text i 0) 57 hi)), d .all) refl;
       })
     where
       next : (i : ℕ) → suc i ≡ i + 1
@@ -58,7 +50,7 @@ module _ (text : List ℕ) where
   -- the answers
   unusable-if : (T (usable text) → ⊥) → Unusable ≡ argumentOf text
   unfolding argumentOf
-  unusable-if h = rw (no-is (usable text) h) refl
+  unusable-if h = rw (is-false (usable text) h) refl
 
   abbrev n : ℕ
   n = length text
@@ -95,7 +87,7 @@ module _ (text : List ℕ) where
   unfolding argumentOf
   is-number {i} {v} e d h =
       let s : v ≡ valueOf text n = d .value ∙ ap (valueOf text) e in
-      rw (yes-is (usable text)
+      rw (is-true (usable text)
       (and-in (leb 1 n) (leb n 10 && (A && B)) (le→leb 1 n (d .some))
       (and-in (leb n 10) (A && B) (le→leb n 10 (d .short))
       (and-in A B (subst T (sym (subst (λ k. allBelow k (digitAt text) ≡ true) e (d .all))) tt)

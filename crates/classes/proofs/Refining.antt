@@ -13,7 +13,7 @@ use Rattle.words.proofs.Built.{built-lt, has-built}
 use Rattle.meaning.specs.Table.{Table}
 use Rattle.meaning.specs.Relation.{LargestRelation, Rule}
 use Rattle.meaning.specs.Reference.Relation.{ruleB, largestB}
-use Rattle.meaning.proofs.Basic.Booleans.{and-in, and-l, and-r, iff-eq}
+use Rattle.meaning.proofs.Basic.Booleans.{and-in, and-l, and-r, test-eq}
 use Rattle.meaning.proofs.Basic.Decides.{DecidesPairs, test-decides}
 use Rattle.meaning.proofs.Classes.Largest.{relation-out, relation-decides}
 use Rattle.meaning.proofs.Classes.Rules.{rule-in, rule-map, rule-out}
@@ -117,7 +117,7 @@ module _ (states inputs : ℕ) (succ compared : List ℕ) (m : states ≤ 32) (p
       unfolding relatedEx relatedFixed
       refining-end e =
           sym e ∙ rows-same states (λ x y. rel r x y && rule r x y) (largestB t c (rel operands) (has pass) (has fail)) m (λ x y l k.
-          iff-eq (rel r x y && rule r x y) (largestB t c (rel operands) (has pass) (has fail) x y)
+          test-eq (rel r x y && rule r x y) (largestB t c (rel operands) (has pass) (has fail) x y)
           (λ z. largest .whole x y l k (record { rel = rel r; here = and-l (rel r x y) (rule r x y) z; keeps = keeps e }))
           (λ z.
           let i = h .holds x y l k z in

@@ -12,7 +12,7 @@ use Rattle.words.proofs.Members.{has-none, has-union, has-intersection, interse
 use Rattle.words.proofs.Built.{built-same, cut-built, has-built, has-complement, complement-lt}
 use Rattle.meaning.specs.Tests.{anyBelow}
 use Rattle.meaning.specs.Reference.Tests.{allBelow}
-use Rattle.meaning.proofs.Basic.Booleans.{iff-eq, imp-in, imp-out}
+use Rattle.meaning.proofs.Basic.Booleans.{test-eq, imp-in, imp-out}
 use Rattle.meaning.proofs.Basic.Bounded.{all-in, all-out}
 use Rattle.classes.specs.Rows.{rel}
 use Rattle.classes.specs.Matching.{kept}
@@ -107,7 +107,7 @@ joining-end {n} {w} {r} {m} {v} h l =
 -- ---- one assignment: the members of w that are not in fail lie in the set of g
 pub covered-all : (n w fail : ℕ) (g : ℕ → Bool)
     → subset (intersection w (complement n fail)) (built n g) ≡ allBelow n (λ u. not (has w u && not (has fail u)) || g u)
-covered-all n w fail g = iff-eq (subset live (built n g)) (allBelow n test) out back
+covered-all n w fail g = test-eq (subset live (built n g)) (allBelow n test) out back
   where
     live : ℕ
     live = intersection w (complement n fail)

@@ -3,9 +3,10 @@ use mathlib.Core.Path.{_≡_, refl, sym, subst, ap, _∙_}
 use mathlib.Core.Logic.{_≢_}
 use mathlib.Core.Bool.{Bool, true, false}
 use mathlib.Core.List.{List}
-use lib.Dec.{T, leb, leb→le, le→leb}
+use lib.Dec.{leb}
 use lib.ListN.{length}
 use native.Mathlib.Omega.{arith}
+use borrow.Author.Tests.{le-leb, lt-leb}
 use Prim.Native.Nat.{ℕ, _≤_, _<_}
 use Rattle.meaning.specs.Instrument.{Instrument, Accepted, components, table}
 use Rattle.meaning.specs.Merged.{mergedCount}
@@ -13,7 +14,6 @@ use Rattle.meaning.specs.File.Parser.{Got, found, fault}
 use Rattle.meaning.specs.File.Number.{choose}
 use Rattle.meaning.specs.File.Grammar.{Contents, instrumentOf, readFile}
 use Rattle.meaning.specs.Reference.Answers.{Outcome, refused, entries, outcomeNumber, lentAfter, fitting, fullCount}
-use Rattle.meaning.proofs.Basic.Booleans.{test-eq}
 use Rattle.meaning.proofs.File.Reads.{file-promised}
 use Rattle.meaning.proofs.File.Accepted.{file-accepted}
 use Rattle.cursor.specs.Answers.{number}
@@ -98,31 +98,25 @@ module _ (f : Instrument → Outcome) where
   file-answered h {r} {old} {new} a = subst (λ g. Answered (after g f) r old new) (sym (h .read)) a
 
 -- a combination of so many states
-pub leb-true : (a b : ℕ) → a ≤ b → leb a b ≡ true
-leb-true a b h = test-eq (leb a b) true (λ t. tt) (λ t. le→leb a b h)
-
-pub leb-false : (a b : ℕ) → b < a → leb a b ≡ false
-leb-false a b h = test-eq (leb a b) false (λ t. absurd (omega (arith, leb→le a b t))) (λ t. absurd t)
-
 module _ {old new : List ℕ} {r : Written} where
   pub within-room : (size n : ℕ) (o : Outcome) → size ≤ 4096 → Answered o r old new → Answered (within size n o) r old new
-  within-room size n o h a = subst (λ b. Answered (choose b o (refused n)) r old new) (sym (leb-true size 4096 h)) a
+  within-room size n o h a = subst (λ b. Answered (choose b o (refused n)) r old new) (sym (le-leb size 4096 h)) a
 
 pub oversized : (size : ℕ) (o : Outcome) (cause : Refusal) (old : List ℕ) → 4096 < size → Answered (within size (number cause) o) (Refused cause) old old
 oversized size o cause old h =
-    subst (λ b. Answered (choose b o (refused (number cause))) (Refused cause) old old) (sym (leb-false size 4096 h))
+    subst (λ b. Answered (choose b o (refused (number cause))) (Refused cause) old old) (sym (lt-leb size 4096 h))
     (record { number = refl; count = refl; buffer = refl })
 
 -- a buffer with so much room
 pub too-short : (vs old : List ℕ) → length old < length vs → Answered (fitting (length old) vs) (Refused refusals.Short) old old
 too-short vs old h =
-    subst (λ b. Answered (choose b (entries vs) (refused 13)) (Refused refusals.Short) old old) (sym (leb-false (length vs) (length old) h))
+    subst (λ b. Answered (choose b (entries vs) (refused 13)) (Refused refusals.Short) old old) (sym (lt-leb (length vs) (length old) h))
     (record { number = refl; count = refl; buffer = refl })
 
 pub written : (vs old new : List ℕ) (n : ℕ) → n ≡ length vs → length vs ≤ length old → new ≡ lentAfter (entries vs) old
     → Answered (fitting (length old) vs) (Entries n) old new
 written vs old new n e h b =
-    subst (λ c. Answered (choose c (entries vs) (refused 13)) (Entries n) old new) (sym (leb-true (length vs) (length old) h))
+    subst (λ c. Answered (choose c (entries vs) (refused 13)) (Entries n) old new) (sym (le-leb (length vs) (length old) h))
     (record { number = refl; count = e; buffer = b })
 
 -- an accepted answer: the entries are in the buffer

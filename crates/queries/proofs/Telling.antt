@@ -2,9 +2,10 @@
 use mathlib.Core.Path.{_≡_, refl, sym, subst, ap, _∙_}
 use mathlib.Core.Bool.{Bool, true, false, _&&_}
 use mathlib.Core.List.{List}
-use lib.Dec.{T, eqb, ltb, leb, ltb→lt, lt→ltb, leb→le, le→leb}
+use lib.Dec.{T, eqb, ltb, leb, ltb→lt}
 use lib.ListN.{getD}
 use native.Mathlib.Omega.{arith}
+use borrow.Author.Tests.{lt-ltb, le-ltb, le-leb, lt-leb}
 use Prim.Native.Nat.{ℕ, _≤_, _<_}
 use Rattle.meaning.specs.Instrument as meaning
 use Rattle.meaning.specs.Instrument.{Instrument, components, table}
@@ -14,7 +15,6 @@ use Rattle.meaning.specs.File.Number.{choose}
 use Rattle.meaning.specs.File.Grammar.{Contents, instrumentOf, readFile}
 use Rattle.meaning.specs.Reference.Tests.{allBelow}
 use Rattle.meaning.specs.Reference.Answers.{mergedSize}
-use Rattle.meaning.proofs.Basic.Booleans.{test-eq}
 use Rattle.meaning.proofs.Basic.Bounded.{all-out}
 use Rattle.meaning.proofs.File.Accepted.{file-accepted}
 use Rattle.cursor.specs.Answers.{number}
@@ -34,7 +34,7 @@ use Rattle.verdict.specs.declared.Verdict.the-variants as judge
 use Rattle.answers.specs.Outcomes.{Reply, given, denied, replyAfter, asksState, lookedUp, lookupOf, Judgement, judgement, verdictOf}
 use Rattle.answers.specs.Means.{Holds, LookupMeans, VerdictMeans}
 use Rattle.answers.proofs.Starts.{lookup-means, verdict-means}
-use Rattle.queries.proofs.Answering.{Found, refused-fault, leb-true, leb-false}
+use Rattle.queries.proofs.Answering.{Found, refused-fault}
 
 -- a refused file, and an accepted one
 module _ {X : Type 0} (f : Instrument → Reply X) where
@@ -67,17 +67,11 @@ module _ (t : code.Instrument) (k : Contents) (d : Describes t k) where
   abbrev I : Instrument
   I = instrumentOf k
 
-  ltb-true : (a b : ℕ) → a < b → ltb a b ≡ true
-  ltb-true a b h = test-eq (ltb a b) true (λ p. tt) (λ p. lt→ltb a b h)
-
-  ltb-false : (a b : ℕ) → b ≤ a → ltb a b ≡ false
-  ltb-false a b h = test-eq (ltb a b) false (λ p. absurd (omega (arith, ltb→lt a b p))) (λ p. absurd p)
-
   pub in-own : (i x : ℕ) → i < t .components → ltb x (getD (t .states) i 0) ≡ choose (ltb i (components I)) (ltb x (table I i .states)) (eqb x 0)
-  in-own i x l = rw (ltb-true i (components I) (omega (arith, table-count t k d)), table-states t k d i) refl
+  in-own i x l = rw (lt-ltb i (components I) (omega (arith, table-count t k d)), table-states t k d i) refl
 
   pub in-past : (i x : ℕ) → t .components ≤ i → eqb x 0 ≡ choose (ltb i (components I)) (ltb x (table I i .states)) (eqb x 0)
-  in-past i x l = rw (ltb-false i (components I) (omega (arith, table-count t k d))) refl
+  in-past i x l = rw (le-ltb i (components I) (omega (arith, table-count t k d))) refl
 
   -- an asked state is one of each component
   abbrev pub inside : List ℕ → ℕ → Bool
@@ -87,7 +81,7 @@ module _ (t : code.Instrument) (k : Contents) (d : Describes t k) where
   asked-below s e i l =
       let a = all-out 4 (inside s) (subst T (sym e) tt) i (omega (arith, table-count t k d, count-bounds t k d .1)) in
       ltb→lt (getD s i 0) (table I i .states)
-      (subst (λ b. T (choose b (ltb (getD s i 0) (table I i .states)) (eqb (getD s i 0) 0))) (ltb-true i (components I) l) a)
+      (subst (λ b. T (choose b (ltb (getD s i 0) (table I i .states)) (eqb (getD s i 0) 0))) (lt-ltb i (components I) l) a)
 
   pub asked-listed : (s : List ℕ) → asksState I s ≡ true → OfComponents t s
   asked-listed s e = states-listed t k d s (asked-below s e)
@@ -106,10 +100,10 @@ module _ (I : Instrument) (s : List ℕ) where
   asked-none e = rw e refl
 
   pub looked-large : asksState I s ≡ true → 4096 < mergedSize I → denied 12 ≡ lookupOf I s
-  looked-large e h = rw (e, leb-false (mergedSize I) 4096 h) refl
+  looked-large e h = rw (e, lt-leb (mergedSize I) 4096 h) refl
 
   pub looked : asksState I s ≡ true → mergedSize I ≤ 4096 → (b : Bool) → b ≡ lookedUp I s → given b ≡ lookupOf I s
-  looked e h b q = rw (e, leb-true (mergedSize I) 4096 h) (ap given q)
+  looked e h b q = rw (e, le-leb (mergedSize I) 4096 h) (ap given q)
 
   -- an answer was looked up
   pub looked-given : (b : Bool) → lookupOf I s ≡ given b → (asksState I s ≡ true) × (b ≡ lookedUp I s)

@@ -6,6 +6,7 @@ use arguments::Argument;
 use libc::STDIN_FILENO;
 use libc::STDOUT_FILENO;
 use queries::Asked;
+
 mod print;
 
 // What is asked.

@@ -2,13 +2,13 @@
 use mathlib.Core.Path.{_≡_, refl, sym, subst, ap, ap₂, _∙_}
 use mathlib.Core.Bool.{Bool, true, false, cond}
 use mathlib.Core.List.{List, [], _∷_, _++_, append-assoc, append-nil}
-use lib.Dec.{ltb, lt→ltb, ltb→lt}
+use lib.Dec.{ltb}
+use borrow.Author.Tests.{lt-ltb, le-ltb}
 use lib.ListN.{length, getD, set, replicate, take, length-append}
 use lib.Seq.{sets, take-suc, length-take-le}
 use native.Mathlib.Nat.{zero-add}
 use native.Mathlib.Omega.{arith}
 use Prim.Native.Nat.{ℕ, zero, suc, _+_, _-_, _/_, _%_, _≤_, _<_}
-use Rattle.meaning.proofs.Basic.Booleans.{test-eq}
 use Rattle.meaning.proofs.Basic.Entries.{sets-append}
 use Rattle.answers.specs.Listing.{digitsOf, decimal}
 use Rattle.text.specs.declared.Text.{Text}
@@ -57,14 +57,14 @@ digits-none (suc places) v e = absurd (omega arith)
 
 pub digits-low : (places v : ℕ) → 0 < places → v < 10 → digitsOf places v ≡ (48 + v % 10) ∷ []
 digits-low zero v p l = absurd (omega arith)
-digits-low (suc places) v p l = ap (λ b. cond b [] (digitsOf places (v / 10)) ++ ((48 + v % 10) ∷ [])) (test-eq (ltb v 10) true (λ h. tt) (λ h. lt→ltb v 10 l))
+digits-low (suc places) v p l = ap (λ b. cond b [] (digitsOf places (v / 10)) ++ ((48 + v % 10) ∷ [])) (lt-ltb v 10 l)
 
 pub digits-high : (places v : ℕ) → 0 < places → 10 ≤ v → digitsOf places v ≡ digitsOf (places - 1) (v / 10) ++ ((48 + v % 10) ∷ [])
 digits-high zero v p l = absurd (omega arith)
 digits-high (suc places) v p l =
     let e : places ≡ suc places - 1 = omega arith in
     ap (λ b. cond b [] (digitsOf places (v / 10)) ++ ((48 + v % 10) ∷ []))
-    (test-eq (ltb v 10) false (λ h. absurd (omega (arith, ltb→lt v 10 h))) (λ h. absurd h))
+    (le-ltb v 10 l)
     ∙ ap (λ k. digitsOf k (v / 10) ++ ((48 + v % 10) ∷ [])) e
 
 shorter : (b : Bool) (l : List ℕ) (n : ℕ) → length l ≤ n → length (cond b [] l) ≤ n
@@ -74,8 +74,11 @@ shorter false l n h = h
 pub digits-length : (places v : ℕ) → length (digitsOf places v) ≤ places
 digits-length zero v = omega arith
 digits-length (suc places) v =
-    omega (arith, length-append (cond (ltb v 10) [] (digitsOf places (v / 10))) ((48 + v % 10) ∷ []),
-    shorter (ltb v 10) (digitsOf places (v / 10)) places (digits-length places (v / 10)))
+    omega (
+      arith,
+      length-append (cond (ltb v 10) [] (digitsOf places (v / 10))) ((48 + v % 10) ∷ []),
+      shorter (ltb v 10) (digitsOf places (v / 10)) places (digits-length places (v / 10)),
+    )
 
 -- ten places
 pub ten : {t u : Text} (v : ℕ) → Holds t u (digitsOf 10 v) → Holds t u (decimal v)

@@ -175,6 +175,7 @@ common-out k a b p h =
     let d = digit-and a b t in
     let o = has-one (bitAnd a b) t m in
     (t, l, one-has a t (omega (arith, digit-lt a t)), one-has b t (omega (arith, digit-lt b t)))
+
 -- one member less, in words of k digits
 module _ (k w t : ℕ) where
   abbrev rest : ℕ

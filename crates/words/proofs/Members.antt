@@ -111,6 +111,7 @@ insert-in w t u h =
 
 pub insert-out : (w t u : ℕ) → T (has (insert w t) u) → T (has w u) ⊎ (t ≡ u)
 insert-out w t u h = elim (ℕ-discrete t u) [ yes e ↦ inr e | no z ↦ inl (subst T (insert-others w t u z) h) ]
+
 -- w and t besides has what w has, and t
 pub insert-iff : (w t u : ℕ) → T (has (insert w t) u) ↔ (T (has w u) ⊎ (t ≡ u))
 insert-iff w t u =

@@ -65,12 +65,14 @@ eq-beq a b e = subst (λ c. T (Bool·beq a c)) e (self a)
     self true = tt
     self false = tt
 
--- two tests that follow from each other
-pub iff-eq : (a b : Bool) → (T a → T b) → (T b → T a) → a ≡ b
-iff-eq true true f g = refl
-iff-eq true false f g = absurd (f tt)
-iff-eq false true f g = absurd (g tt)
-iff-eq false false f g = refl
+-- the outcome of a test that passes, and of one that does not
+pub is-true : (b : Bool) → T b → b ≡ true
+is-true true h = refl
+is-true false h = absurd h
+
+pub is-false : (b : Bool) → (T b → ⊥) → b ≡ false
+is-false true h = absurd (h tt)
+is-false false h = refl
 
 -- two tests that agree where c holds, and fail where it does not
 pub own-eq : (c a b : Bool) → (T c → a ≡ b) → (T a → T c) → (T b → T c) → a ≡ b

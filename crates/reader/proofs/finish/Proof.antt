@@ -18,8 +18,7 @@ refused-requires-2 c κs = search needs
 
 returns : tie.Need-returns
 returns c =
-    let enum-told′ = c .before .before .enum-told in
-    (
+    let enum-told′ = c .before .before .enum-told in (
       goes-accepted _ _ _ _ (enum-told′ .given .1) (trailing _ _ _ _ (c .before .if1 .taken) (c .refused2 .ensures)),
       fits-refused _ _ _ _ _ (c .refused2 .ensures),
     )

@@ -27,8 +27,7 @@ returns c =
     let file = args′ .file .now in
     let t = readTables file 0 in
     let n = on t (λ k at. readNodes k file at) in
-    let s = on n (λ k at. readStarts k file at) in
-    (
+    let s = on n (λ k at. readStarts k file at) in (
       c .finish .ensures .0 .on-from s (c .before .starts .ensures .0 .on-from n (nodes′ .ensures .0 .on-from t (tables′ .ensures .0)))
           ∙ ap (mapped layout) (in-stages file),
       c .finish .ensures .1,

@@ -19,7 +19,7 @@ root-bit-requires c κs =
     ((k, ready _ _ k (p .describes) (p .named) _ _ (m .write-merged .ensures k p)), m .before .before .pre .1)
 
 returns : tie.Need-returns
-returns c =     λ k p. c .root-bit .ensures k (ready _ _ k (p .describes) (p .named) _ _ (c .before .before .before .write-merged .ensures k p))
+returns c = λ k p. c .root-bit .ensures k (ready _ _ k (p .describes) (p .named) _ _ (c .before .before .before .write-merged .ensures k p))
 
 pub bit-of-spec : {M : Type 1} → statement M
 bit-of-spec =

@@ -34,10 +34,10 @@ returns-2 c =
     by-merging (h .given .0 .0) ∙ ap (λ v. judgement (answerOf v)) (sym (h .given .1)) ∙ ap judgement (c .before .before .before .judge .ensures k d)
 
 returns-3 : tie.Need-returns-3
-returns-3 c =     λ k d. ap (λ v. judgement (answerOf v)) (sym (c .enum-told .given .1)) ∙ ap judgement (c .before .before .judge .ensures k d)
+returns-3 c = λ k d. ap (λ v. judgement (answerOf v)) (sym (c .enum-told .given .1)) ∙ ap judgement (c .before .before .judge .ensures k d)
 
 returns-4 : tie.Need-returns-4
-returns-4 c =     λ k d. ap (λ v. judgement (answerOf v)) (sym (c .enum-told2 .given .1)) ∙ ap judgement (c .before .before .judge .ensures k d)
+returns-4 c = λ k d. ap (λ v. judgement (answerOf v)) (sym (c .enum-told2 .given .1)) ∙ ap judgement (c .before .before .judge .ensures k d)
 
 pub judge-spec : {M : Type 1} → statement M
 judge-spec =

@@ -31,9 +31,14 @@ bit-of-requires c κs =
     let n = c .before in
     let m = n .before .before in
     let (k, d) = m .before .pre .0 in
-    let e = n .before .marked-classes .ensures k (record { describes = d; marked = m .all-marks .ensures k d }) in
-    ((k, record { describes = d; marked = m .all-marks .ensures k d; named = e },
-    omega (arith, n .merged-count .ensures k d, size-named (m .before .args .t) k d (n .before .marked-classes .result) e)), m .before .pre .1)
+    let e = n .before .marked-classes .ensures k (record { describes = d; marked = m .all-marks .ensures k d }) in (
+      (
+        k,
+        record { describes = d; marked = m .all-marks .ensures k d; named = e },
+        omega (arith, n .merged-count .ensures k d, size-named (m .before .args .t) k d (n .before .marked-classes .result) e),
+      ),
+      m .before .pre .1,
+    )
 
 returns-2 : tie.Need-returns-2
 returns-2 c =

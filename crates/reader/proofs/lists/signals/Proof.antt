@@ -20,7 +20,7 @@ abbrev Inv-loop : tie.InvT-loop
 Inv-loop file count w taken known out₀ base place₀ low₀ set₀ i₀ out place low set i =
     (i ≤ count) × (length out ≡ length out₀)
     × Progress (signal limits w taken) (λ low v. v + 1) file count 0 (place₀ .at)
-        (λ (l : List ℕ). (out ≡ sets out₀ base l) × (set ≡ withAll set₀ l)) i low (place .at)
+    (λ (l : List ℕ). (out ≡ sets out₀ base l) × (set ≡ withAll set₀ l)) i low (place .at)
 
 abbrev μ-loop : tie.MeasureT-loop
 μ-loop file count w taken known out₀ base place₀ low₀ set₀ i₀ out place low set i = count - i
@@ -91,8 +91,7 @@ loop-again : tie.Need-loop-again Inv-loop μ-loop
 loop-again c =
     let loop′ = c .before .before .before .before .before .before .loop in
     let loop-test′ = c .before .before .before .before .before .loop-test in
-    let after-v′ = c .before .before in
-    (
+    let after-v′ = c .before .before in (
       omega arith,
       length-set (loop′ .out) _ _ ∙ loop′ .inv .1,
       more _ _ _ _ _ _ _ _ _ _ (loop′ .inv .2) _ (loop-test′ .taken) _ _ (is after-v′)

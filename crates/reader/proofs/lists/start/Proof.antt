@@ -73,8 +73,7 @@ loop-again : tie.Need-loop-again Inv-loop μ-loop
 loop-again c =
     let loop′ = c .before .before .before .before .before .loop in
     let loop-test′ = c .before .before .before .before .loop-test in
-    let less-than′ = c .before .before .before .less-than in
-    (
+    let less-than′ = c .before .before .before .less-than in (
       omega arith,
       length-set (loop′ .out) _ _ ∙ loop′ .inv .1,
       more _ _ _ _ _ _ _ _ _ _ (loop′ .inv .2) _ (loop-test′ .taken) _ _ (sym (less-than′ .ensures) ∙ ap got (c .before .v .given .1))

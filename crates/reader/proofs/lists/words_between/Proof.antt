@@ -19,7 +19,7 @@ abbrev Inv-loop : tie.InvT-loop
 Inv-loop file count lo hi out₀ base place₀ i₀ out place i =
     (i ≤ count) × (length out ≡ length out₀)
     × Progress (λ s. between limits lo hi 6) (λ s a. s) file count done (place₀ .at) (λ (l : List ℕ). out ≡ sets out₀ base l) i done
-        (place .at)
+    (place .at)
 
 abbrev μ-loop : tie.MeasureT-loop
 μ-loop file count lo hi out₀ base place₀ i₀ out place i = count - i
@@ -68,8 +68,7 @@ loop-again : tie.Need-loop-again Inv-loop μ-loop
 loop-again c =
     let loop′ = c .before .before .before .before .before .loop in
     let loop-test′ = c .before .before .before .before .loop-test in
-    let between′ = c .before .before .before .between in
-    (
+    let between′ = c .before .before .before .between in (
       omega arith,
       length-set (loop′ .out) _ _ ∙ loop′ .inv .1,
       more _ _ _ _ _ _ _ _ _ _ (loop′ .inv .2) _ (loop-test′ .taken) _ _ (sym (between′ .ensures) ∙ ap got (c .before .v .given .1))

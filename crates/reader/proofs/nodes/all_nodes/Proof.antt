@@ -19,12 +19,11 @@ abbrev μ-loop : tie.MeasureT-loop
 μ-loop file count all₀ i₀ all i = count - i
 
 loop-holds : tie.Need-loop-holds Inv-loop μ-loop
-loop-holds c =
-    (
-      omega arith,
-      goes-none _ addNode _,
-      record { few-components = omega arith; few-signals = c .before .pre .1; few-nodes = omega arith; few-starts = omega arith },
-    )
+loop-holds c = (
+  omega arith,
+  goes-none _ addNode _,
+  record { few-components = omega arith; few-signals = c .before .pre .1; few-nodes = omega arith; few-starts = omega arith },
+)
 
 next-node-requires : tie.Need-next-node-requires Inv-loop μ-loop
 next-node-requires c κs =
@@ -41,8 +40,7 @@ loop-less c = omega arith
 loop-again : tie.Need-loop-again Inv-loop μ-loop
 loop-again c =
     let loop′ = c .before .before .loop in
-    let f = loop′ .inv .2 in
-    (
+    let f = loop′ .inv .2 in (
       omega arith,
       goes-more _ addNode (loop′ .i) _ _ _ (loop′ .inv .1) (c .next-node .ensures .0),
       fits-more _ _ _ _ _ _ _ (f .few-components) (omega (arith, f .few-nodes)) (f .few-starts) (c .next-node .ensures .1),
@@ -51,8 +49,7 @@ loop-again c =
 returns : tie.Need-returns Inv-loop μ-loop
 returns c =
     let args′ = c .before .before .before .args in
-    let e : c .before .loop .i ≡ args′ .count = omega arith in
-    (
+    let e : c .before .loop .i ≡ args′ .count = omega arith in (
       goes-all _ addNode _ _ _ _ e (c .before .loop .inv .1),
       fits-more _ _ _ _ _ _ _ (omega arith) (omega arith) (omega arith) (c .before .loop .inv .2),
     )

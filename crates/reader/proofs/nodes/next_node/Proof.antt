@@ -55,8 +55,7 @@ returns-2 : tie.Need-returns-2
 returns-2 c =
     let enum-told′ = c .before .before .before .before .before .before .enum-told in
     let r′ = c .before .before .r in
-    let node′ = c .before .before .before .before .node in
-    (
+    let node′ = c .before .before .before .before .node in (
       goes-accepted _ _ _ _ (enum-told′ .given .1)
           (record {
             laid =
@@ -72,8 +71,7 @@ returns-3 c =
     let node′ = c .before .before .before .before .node in
     let enum-told′ = c .before .before .before .before .before .before .enum-told in
     let pre′ = c .before .before .before .before .before .before .before .before .before .pre in
-    let w = was nodeOf _ _ _ (sym (ap gotNode (n′ .given .1)) ∙ node′ .ensures) in
-    (
+    let w = was nodeOf _ _ _ (sym (ap gotNode (n′ .given .1)) ∙ node′ .ensures) in (
       goes-accepted _ _ _ _ (enum-told′ .given .1)
           (record {
             laid = λ k e. laid-accepted _ _ _ _ _ (c .accepted .ensures) (node-laid _ k e (w .value) _ (w .same)) (add-node _ k e _ _ _ (w .is));

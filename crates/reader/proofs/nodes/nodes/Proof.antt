@@ -52,8 +52,7 @@ returns-2 : tie.Need-returns-2
 returns-2 c =
     let enum-told′ = c .before .before .before .before .before .before .enum-told in
     let between′ = c .before .before .before .before .between in
-    let r′ = c .before .before .r in
-    (
+    let r′ = c .before .before .r in (
       goes-accepted _ _ _ _ (enum-told′ .given .1)
           (uncounted _ _ _ _ _ _ _ _ (sym (between′ .ensures) ∙ ap got (r′ .given .1)) (c .refused2 .ensures)),
       fits-refused _ _ _ _ _ (c .refused2 .ensures),
@@ -69,8 +68,7 @@ returns-3 c =
     let few = between-le _ _ _ _ _ _ _ b in
     let components = ap (λ (p : Step). p .instrument .components) (c .before .accepted .ensures) in
     let n = ap (λ (p : Step). p .instrument .nodecount) (c .before .accepted .ensures) in
-    let s = ap (λ (p : Step). p .instrument .startcount) (c .before .accepted .ensures) in
-    (
+    let s = ap (λ (p : Step). p .instrument .startcount) (c .before .accepted .ensures) in (
       goes-accepted _ _ _ _ (enum-told′ .given .1) (counted _ _ _ _ _ _ _ _ _ _ b (c .before .accepted .ensures) (c .all-nodes .ensures .0)),
       fits-more _ _ _ _ _ _ _ (omega (arith, p .few-components)) (omega (arith, few, p .few-nodes)) (omega (arith, p .few-starts))
           (c .all-nodes .ensures .1),

@@ -19,23 +19,21 @@ abbrev μ-loop : tie.MeasureT-loop
 μ-loop file count all₀ i₀ all i = count - i
 
 loop-holds : tie.Need-loop-holds Inv-loop μ-loop
-loop-holds c =
-    (
-      omega arith,
-      goes-none _ addStart _,
-      record {
-        few-components = c .before .pre .1 .few-components;
-        few-signals = c .before .pre .1 .few-signals;
-        few-nodes = c .before .pre .1 .few-nodes;
-        few-starts = omega arith;
-      },
-    )
+loop-holds c = (
+  omega arith,
+  goes-none _ addStart _,
+  record {
+    few-components = c .before .pre .1 .few-components;
+    few-signals = c .before .pre .1 .few-signals;
+    few-nodes = c .before .pre .1 .few-nodes;
+    few-starts = omega arith;
+  },
+)
 
 next-start-requires : tie.Need-next-start-requires Inv-loop μ-loop
 next-start-requires c κs =
     let pre′ = c .before .before .before .pre in
-    let f = c .before .loop .inv .2 in
-    (
+    let f = c .before .loop .inv .2 in (
       omega (arith, f .few-starts, c .loop-test .taken, pre′ .0),
       fits-more _ _ _ _ _ _ _ (omega arith) (omega arith) (omega (arith, c .loop-test .taken, pre′ .0)) f,
     )
@@ -49,8 +47,7 @@ loop-less c = omega arith
 loop-again : tie.Need-loop-again Inv-loop μ-loop
 loop-again c =
     let loop′ = c .before .before .loop in
-    let f = loop′ .inv .2 in
-    (
+    let f = loop′ .inv .2 in (
       omega arith,
       goes-more _ addStart (loop′ .i) _ _ _ (loop′ .inv .1) (c .next-start .ensures .0),
       fits-more _ _ _ _ _ _ _ (omega arith) (omega arith) (omega (arith, f .few-starts)) (c .next-start .ensures .1),
@@ -59,8 +56,7 @@ loop-again c =
 returns : tie.Need-returns Inv-loop μ-loop
 returns c =
     let args′ = c .before .before .before .args in
-    let e : c .before .loop .i ≡ args′ .count = omega arith in
-    (
+    let e : c .before .loop .i ≡ args′ .count = omega arith in (
       goes-all _ addStart _ _ _ _ e (c .before .loop .inv .1),
       fits-more _ _ _ _ _ _ _ (omega arith) (omega arith) (omega arith) (c .before .loop .inv .2),
     )

@@ -68,8 +68,7 @@ returns-2 c =
     let enum-told′ = c .before .before .before .before .before .before .before .before .before .before .before .enum-told in
     let pre′ = c .before .before .before .before .before .before .before .before .before .before .before .before .before .before .pre in
     let r′ = c .before .before .r in
-    let start′ = c .before .before .before .before .before .start in
-    (
+    let start′ = c .before .before .before .before .before .start in (
       goes-accepted _ _ _ _ (enum-told′ .given .1)
           (record {
             laid =
@@ -86,8 +85,7 @@ returns-3 c =
     let start′ = c .before .before .before .before .before .start in
     let enum-told′ = c .before .before .before .before .before .before .before .before .before .before .before .enum-told in
     let pre′ = c .before .before .before .before .before .before .before .before .before .before .before .before .before .before .pre in
-    let w = was (λ vs. done) _ _ _ (sym (ap moved (next′ .given .1)) ∙ start′ .ensures .0) in
-    (
+    let w = was (λ vs. done) _ _ _ (sym (ap moved (next′ .given .1)) ∙ start′ .ensures .0) in (
       goes-accepted _ _ _ _ (enum-told′ .given .1)
           (record {
             laid =

@@ -40,8 +40,7 @@ all-starts-requires c κs =
     let count′ = c .before .before .count in
     let p = c .before .before .before .before .before .before .before .before .before .pre in
     let few = between-le _ _ _ _ _ _ _ (sym (between′ .ensures) ∙ ap got (count′ .given .1)) in
-    let s = ap (λ (p : Step). p .instrument .startcount) (c .accepted .ensures) in
-    (
+    let s = ap (λ (p : Step). p .instrument .startcount) (c .accepted .ensures) in (
       omega (arith, few, p .few-starts),
       subst (λ (p : Step). Fits _ _ _ (p .instrument)) (sym (c .accepted .ensures)) (fits-more _ _ _ _ _ _ _ (omega arith) (omega arith) (omega arith) p),
     )
@@ -55,8 +54,7 @@ returns-2 : tie.Need-returns-2
 returns-2 c =
     let enum-told′ = c .before .before .before .before .before .before .enum-told in
     let between′ = c .before .before .before .before .between in
-    let r′ = c .before .before .r in
-    (
+    let r′ = c .before .before .r in (
       goes-accepted _ _ _ _ (enum-told′ .given .1)
           (uncounted _ _ _ _ _ _ _ _ (sym (between′ .ensures) ∙ ap got (r′ .given .1)) (c .refused2 .ensures)),
       fits-refused _ _ _ _ _ (c .refused2 .ensures),
@@ -70,8 +68,7 @@ returns-3 c =
     let enum-told′ = c .before .before .before .before .before .before .before .enum-told in
     let b = sym (between′ .ensures) ∙ ap got (count′ .given .1) in
     let few = between-le _ _ _ _ _ _ _ b in
-    let s = ap (λ (p : Step). p .instrument .startcount) (c .before .accepted .ensures) in
-    (
+    let s = ap (λ (p : Step). p .instrument .startcount) (c .before .accepted .ensures) in (
       goes-accepted _ _ _ _ (enum-told′ .given .1) (counted _ _ _ _ _ _ _ _ _ _ b (c .before .accepted .ensures) (c .all-starts .ensures .0)),
       fits-more _ _ _ _ _ _ _ (omega arith) (omega arith) (omega (arith, few, p .few-starts)) (c .all-starts .ensures .1),
     )
