@@ -1,0 +1,70 @@
+// The lines of the listing program as bytes in a lent buffer (document 01, Verdict and listing).
+use entry_queries::Written;
+use cursor::Refusal;
+use instrument::Instrument;
+use reader::Outcome;
+use text::Text;
+use verdict::Verdict;
+ghost use mathlib.Core.Path.{_≡_};
+ghost use lib.ListN.{length};
+ghost use Rattle.meaning.specs.File.Grammar.{Contents, instrumentOf};
+ghost use Rattle.meaning.specs.Reference.Answers.{fitting};
+ghost use Rattle.instrument.specs.Described.{Describes};
+ghost use Rattle.cursor.specs.Answers.{number};
+ghost use Rattle.text.specs.Texts.{textOf};
+ghost use Rattle.report.specs.Report.{judgementFrom};
+ghost use Rattle.answers.specs.Outcomes.{judgement, verdictOf};
+ghost use Rattle.answers.specs.Listing.{listed, listingOutcome, listingText, refusalLine};
+ghost use Rattle.entry_queries.specs.Written.{Answered};
+
+// The lines on the instrument of an accepted file, with this verdict and stage: 13 alone.
+fn write_lines(t: Instrument, holds: bool, by_marks: bool, out: &mut [u8]) -> Written
+    requires { ⌜ ((k : Contents) × Describes t k) ⌝ }
+    ensures { λ r. ⌜ ((k : Contents) → Describes t k → Answered (fitting (length (now (out .entry))) (listingText (instrumentOf k) (judgementFrom holds «by_marks»))) r (now (out .entry)) (now (out .exit))) ⌝ }
+{
+    let names = partitions::all_classes(t);
+    let merged = merging::merged_count(t, names);
+    let full = combination::combined_count(t);
+    let text = report::listing_text(t, names, holds, by_marks, merged, full);
+    let n = text.count;
+    if out.len() < n {
+        return Written::Refused(Refusal::Short);
+    }
+    report::copy_text(text, out);
+    Written::Entries(n)
+}
+
+// The same with its own verdict: 14, 12, then 13.
+fn write_listing(t: Instrument, out: &mut [u8]) -> Written
+    requires { ⌜ ((k : Contents) × Describes t k) ⌝ }
+    ensures { λ r. ⌜ ((k : Contents) → Describes t k → Answered (listed (instrumentOf k) (length (now (out .entry))) (judgement (verdictOf (instrumentOf k)))) r (now (out .entry)) (now (out .exit))) ⌝ }
+{
+    match verdict::judge(t) {
+        Verdict::Clash => Written::Refused(Refusal::Clash),
+        Verdict::Oversized => Written::Refused(Refusal::MergedSize),
+        Verdict::Marks(holds) => write_lines(t, holds, true, out),
+        Verdict::Merged(holds) => write_lines(t, holds, false, out),
+    }
+}
+
+// The listing: the verdict's line, a line of class names for each component, the sizes, each ending with byte 10.
+pub fn listing(file: &[u8], out: &mut [u8]) -> Written
+    ensures answer { λ r. ⌜ Answered (listingOutcome (now (file .entry)) (length (now (out .entry)))) r (now (out .entry)) (now (out .exit)) ⌝ }
+{
+    let reading = reader::read(file);
+    let outcome = reading.outcome;
+    match outcome {
+        Outcome::Refused(cause) => Written::Refused(cause),
+        Outcome::Accepted => {
+            let t = reading.instrument;
+            write_listing(t, out)
+        }
+    }
+}
+
+// The line of a refusal, `refused N` and byte 10.
+pub fn refusal_line(r: Refusal) -> Text
+    ensures answer { λ l. ⌜ l ≡ textOf (refusalLine (number r)) ⌝ }
+{
+    report::refusal_text(r.number())
+}

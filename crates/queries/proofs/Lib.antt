@@ -1,3 +1,0 @@
-pub mod Stretches
-pub mod Answering
-pub mod Telling

@@ -1,3 +1,0 @@
-pub mod Components
-pub mod Written
-pub mod Told
