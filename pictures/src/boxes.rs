@@ -3,7 +3,7 @@
 use crate::component::{Class, Component, Mark};
 use crate::geometry::{Point, Rect};
 use crate::palette::Fill;
-use crate::svg::{text_width, Anchor, Svg};
+use crate::svg::{counted, text_width, Anchor, Svg};
 
 const NUMBER_SIZE: f64 = 15.0;
 const SMALL_SIZE: f64 = 9.0;
@@ -36,14 +36,13 @@ pub fn state_attributes(component: &Component, state: usize) -> String {
 
 /// The box of a class in the merged table.
 pub fn class_item(component: &Component, class: &Class) -> Item {
-    let count = class.members.len();
-    let word = if count == 1 { "state" } else { "states" };
-    let mut rows = vec![format!("{count} {word}")];
+    let size = counted(class.members.len(), "state", "states");
+    let mut rows = vec![size.clone()];
     rows.extend(output_rows(component, class.name));
     let is_start = class.members.iter().any(|&state| component.is_start[state]);
     Item {
         attributes: r#"class="merged""#.to_string(),
-        title: format!("class {}, {count} {word}", class.name),
+        title: format!("class {}, {size}", class.name),
         number: format!("class {}", class.name),
         rows,
         fill: class.fill,

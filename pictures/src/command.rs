@@ -5,7 +5,8 @@ use std::io::{self, Read};
 use std::path::{Path, PathBuf};
 use std::process::ExitCode;
 
-use second::limits;
+use second::fields::write as write_file;
+use second::notation::from_text;
 use second::reader::read;
 
 use crate::answers::Answers;
@@ -14,9 +15,10 @@ use crate::page::page;
 use crate::picture::picture;
 use crate::program;
 
-const USAGE: &str = "usage: pictures [--query PROGRAM] [FILE] FOLDER
+const USAGE: &str = "usage: pictures [--query PROGRAM] [--text] [FILE] FOLDER
   FILE is an instrument file; without it, or for -, standard input is read
-  PROGRAM answers classes, marks and verdict";
+  --query PROGRAM: ask this program for classes, marks and verdict
+  --text: FILE is in the text notation of second/NOTATION.md";
 
 pub fn run(arguments: &[String]) -> ExitCode {
     match draw(arguments) {
@@ -34,12 +36,17 @@ type Failure = (String, u8);
 fn draw(arguments: &[String]) -> Result<(), Failure> {
     let mut words: Vec<&str> = arguments.iter().map(String::as_str).collect();
     let program = program_of(&mut words)?;
+    let is_text = words.first() == Some(&"--text");
+    if is_text {
+        words.remove(0);
+    }
     let (file, folder) = match words.as_slice() {
         [folder] | ["-", folder] if !folder.starts_with('-') => (standard_input(), *folder),
         [file, folder] if !file.starts_with('-') => (contents(file), *folder),
         _ => return Err((USAGE.to_string(), 2)),
     };
     let failed = |message: String| (message, 1);
+    let file = file.and_then(|bytes| if is_text { written(&bytes) } else { Ok(bytes) });
     let file = file.map_err(failed)?;
     let answers = program::answers(&program, &file).map_err(failed)?;
     let files = drawings(&file, &answers).map_err(failed)?;
@@ -61,8 +68,14 @@ fn program_of(words: &mut Vec<&str>) -> Result<PathBuf, Failure> {
 
 fn standard_input() -> Result<Vec<u8>, String> {
     let mut bytes = Vec::new();
-    let input = io::stdin().take(limits::BYTES_READ as u64).read_to_end(&mut bytes);
+    let input = io::stdin().read_to_end(&mut bytes);
     input.map(|_| bytes).map_err(|error| format!("standard input: {error}"))
+}
+
+/// The instrument file of a text.
+fn written(text: &[u8]) -> Result<Vec<u8>, String> {
+    let text = String::from_utf8_lossy(text);
+    from_text(&text).map(|instrument| write_file(&instrument)).map_err(|error| error.to_string())
 }
 
 fn contents(path: &str) -> Result<Vec<u8>, String> {

@@ -84,7 +84,7 @@ fn legend() -> String {
         ("one fill".to_string(), "One fill for each class; its name, the lowest member, is written too. Boxes of one class with several members stand together on a light area."),
         (mark_sample(Mark::Pass), "PASS of the root: beside any partners the root is true in every combined state with this state."),
         (mark_sample(Mark::Fail), "FAIL of the root: beside any partners the root is false in every combined state with this state."),
-        (mark_sample(Mark::Neither), "Neither: the other components decide."),
+        (mark_sample(Mark::Neither), "Neither: marks do not decide."),
         (inline(60.0, &start.body), "Some start has this state."),
         ("s0 s3".to_string(), "In a box: the outputs that are high."),
         ("always, s3, not s3".to_string(), "On a line: the levels of the inputs on which the step is taken. Digits such as on 01 10 are levels of the inputs in their listed order; 8 of 16 is the number of assignments where a text would be long. Where there are many lines they have no labels, and where there are too many none are drawn: the table shows every step."),

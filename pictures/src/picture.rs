@@ -7,7 +7,7 @@ use crate::geometry::{Point, Rect};
 use crate::graph::{Graph, Sketch};
 use crate::matrix;
 use crate::reasons::together;
-use crate::svg::{document, text_width, Anchor, Svg};
+use crate::svg::{counted, document, text_width, Anchor, Svg};
 
 /// Up to this width sketches stand beside each other.
 const WIDTH: f64 = 1400.0;
@@ -51,7 +51,8 @@ pub fn definitions(component: &Component, family: &str) -> String {
 
 /// What the picture shows, in words.
 fn heading(component: &Component, svg: &mut Svg) -> Rect {
-    let (states, classes) = (component.table.states(), component.classes.len());
+    let states = counted(component.table.states(), "state", "states");
+    let classes = counted(component.classes.len(), "class", "classes");
     let names = |signals: &[usize]| match signals {
         [] => "none".to_string(),
         _ => signals.iter().map(|s| format!("s{s}")).collect::<Vec<String>>().join(" "),
@@ -59,7 +60,7 @@ fn heading(component: &Component, svg: &mut Svg) -> Rect {
     let root = component.root();
     let formula = root_text(&component.nodes).unwrap_or(node_text(&component.nodes[root]));
     let lines = [
-        (18.0, format!("Component {}: {states} states, {classes} classes", component.number)),
+        (18.0, format!("Component {}: {states}, {classes}", component.number)),
         (
             12.0,
             format!(
@@ -106,8 +107,8 @@ fn reasons(component: &Component, svg: &mut Svg, top: f64) -> Rect {
     let mut y = top;
     let mut right: f64 = 0.0;
     for class in component.classes.iter().filter(|class| class.members.len() > 1) {
-        let text =
-            format!("Class {} is one: {}", class.name, together(component, class).join("; "));
+        let common = together(component, class).join("; ");
+        let text = format!("Why class {} is one class: {common}", class.name);
         svg.text(&text, Point::new(MARGIN, y), 12.0, Anchor::Begin, "");
         right = right.max(MARGIN + text_width(&text, 12.0));
         y += 17.0;

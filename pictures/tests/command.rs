@@ -66,6 +66,22 @@ fn file_and_standard_input_give_the_same_files() {
 }
 
 #[test]
+fn a_text_is_drawn_as_its_file() {
+    let place = folder("text");
+    let query = program(&place, "component 0 classes 0 0 2", MARKS, "fails marks");
+    let example = concat!(env!("CARGO_MANIFEST_DIR"), "/../second/examples/chain.txt");
+    let target = place.join("pictures");
+    let words = ["--text", example, target.to_str().expect("a path")];
+    assert!(run(&words, Some(&query), b"").status.success());
+    let stored = concat!(env!("CARGO_MANIFEST_DIR"), "/example/component-0.svg");
+    let drawn = fs::read(target.join("component-0.svg")).expect("a written file");
+    assert!(drawn == fs::read(stored).expect("the stored picture"));
+    let output = run(&["--text", target.to_str().expect("a path")], Some(&query), b"signals p p");
+    assert_eq!(output.status.code(), Some(1));
+    assert!(message(&output).starts_with("line 1"));
+}
+
+#[test]
 fn without_the_program_it_says_what_to_run() {
     let place = folder("without");
     let output = run(&[place.to_str().expect("a path")], Some(&place.join("none")), &CHAIN);

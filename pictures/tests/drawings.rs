@@ -30,7 +30,7 @@ fn examples() -> Vec<Vec<u8>> {
 fn full_size(seed: u64, inputs: usize, successors: usize, different_outputs: usize) -> Instrument {
     let mut prng = Prng::new(seed);
     let outputs: Vec<usize> = (0..8).collect();
-    let level = |s: usize, j: usize| s % different_outputs >> j & 1 == 1;
+    let level = |s: usize, j: usize| ((s % different_outputs) >> j) & 1 == 1;
     let mut sets = Vec::new();
     for _ in 0..32 {
         let mut of_state = Vec::new();
