@@ -10,6 +10,7 @@ pub mod formula;
 pub mod geometry;
 pub mod graph;
 pub mod labels;
+pub mod legend;
 pub mod lines;
 pub mod matrix;
 pub mod page;

@@ -10,7 +10,7 @@ pub struct Line {
     pub curve: Curve,
 }
 
-/// The lines of the steps; `loops_inside` are rectangles that a loop keeps off.
+/// The lines of the steps.
 pub fn lines(ring: &Ring, steps: &[(usize, usize)]) -> Vec<Line> {
     let rects: Vec<Rect> = (0..ring.angles.len()).map(|i| ring.rect(i)).collect();
     let mut lines = Vec::new();

@@ -2,10 +2,10 @@
 
 use second::instrument::Instrument;
 
-use crate::boxes::{border, draw_letter, draw_start};
 use crate::component::{Class, Component, Mark};
 use crate::formula::{node_text, root_text};
-use crate::geometry::{Point, Rect};
+use crate::geometry::Rect;
+use crate::legend::{inline, legend};
 use crate::reasons::{apart, together};
 use crate::svg::{escaped, Svg};
 
@@ -59,43 +59,6 @@ fn formula(instrument: &Instrument) -> String {
 fn combined(states: &[usize]) -> String {
     let states: Vec<String> = states.iter().map(usize::to_string).collect();
     format!("({})", states.join(", "))
-}
-
-/// A small drawing within the text.
-fn inline(width: f64, content: &str) -> String {
-    format!(
-        "<svg xmlns=\"http://www.w3.org/2000/svg\" width=\"{width:.0}\" height=\"30\" \
-         viewBox=\"0 0 {width:.0} 30\">\n{content}</svg>"
-    )
-}
-
-fn mark_sample(mark: Mark) -> String {
-    let mut svg = Svg::new();
-    let rect = Rect { left: 6.0, top: 6.0, right: 46.0, bottom: 26.0 };
-    svg.rect(&rect, 6.0, &format!(r##"fill="#ffffff" {}"##, border(mark, 3.2)));
-    draw_letter(&mut svg, mark, Point::new(44.0, 9.0), 8.0);
-    inline(60.0, &svg.body)
-}
-
-fn legend() -> String {
-    let mut start = Svg::new();
-    draw_start(&mut start, Point::new(20.0, 12.0));
-    let rows = [
-        ("one fill".to_string(), "One fill for each class; its name, the lowest member, is written too. Boxes of one class with several members stand together on a light area."),
-        (mark_sample(Mark::Pass), "PASS of the root: beside any partners the root is true in every combined state with this state."),
-        (mark_sample(Mark::Fail), "FAIL of the root: beside any partners the root is false in every combined state with this state."),
-        (mark_sample(Mark::Neither), "Neither: marks do not decide."),
-        (inline(60.0, &start.body), "Some start has this state."),
-        ("s0 s3".to_string(), "In a box: the outputs that are high."),
-        ("always, s3, not s3".to_string(), "On a line: the levels of the inputs on which the step is taken. Digits such as on 01 10 are levels of the inputs in their listed order; 8 of 16 is the number of assignments where a text would be long. Where there are many lines they have no labels, and where there are too many none are drawn: the table shows every step."),
-        ("table".to_string(), "A row for each state: outputs (a disc is high), the mark at each node under the root (P, F), and the states it goes to. A full cell is a step on every assignment, squares in a cell are single assignments."),
-        ("merged table".to_string(), "A box for each class: the outputs of its lowest state, and a line to each class that holds a successor of any member."),
-    ];
-    let mut html = String::from("<h2>Legend</h2>\n<table>\n");
-    for (sign, text) in rows {
-        html += &format!("<tr><td>{sign}</td><td>{text}</td></tr>\n");
-    }
-    html + "</table>\n"
 }
 
 fn section(component: &Component) -> String {
