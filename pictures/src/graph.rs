@@ -252,7 +252,8 @@ fn name_place(ring: &Ring, first: usize, count: usize, name: &str, taken: &[Rect
     let (width, height) = (text_width(name, 12.0) + 4.0, 16.0);
     let angle = (ring.angles[first] + ring.angles[first + count - 1]) / 2.0;
     let outward = Point::new(angle.sin(), -angle.cos());
-    let mut distance = ring.radius + 10.0;
+    let between = ring.angles.len() == 2;
+    let mut distance = if between { 0.0 } else { ring.radius + 10.0 };
     loop {
         let rect = Rect::centred(outward.times(distance), width, height);
         if !taken.iter().any(|other| other.grown(5.0).overlaps(&rect)) {

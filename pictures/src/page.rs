@@ -87,13 +87,17 @@ fn class_row(component: &Component, class: &Class) -> String {
         Mark::Fail => "FAIL",
         Mark::Neither => "",
     };
+    let common = match class.members.len() {
+        1 => String::new(),
+        _ => together(component, class).join("; "),
+    };
     format!(
         "<tr><td>{}</td><td>{}</td><td>{}</td><td>{}</td><td>{root}</td><td>{}</td></tr>\n",
         class.name,
         inline(50.0, &svg.body),
         class.members.len(),
         states.join(" "),
-        escaped(&together(component, class).join("; "))
+        escaped(&common)
     )
 }
 

@@ -9,6 +9,10 @@ use crate::answers::Answers;
 /// Names another program, as the option `--query` does.
 pub const VARIABLE: &str = "PICTURES_QUERY";
 
+/// What to do without a program that answers.
+const ADVICE: &str = "run `rt check query` in the repository's folder to make target/bin/query, \
+    or name a program with --query or PICTURES_QUERY";
+
 /// The program of this repository.
 pub fn usual_program() -> PathBuf {
     let repository = Path::new(env!("CARGO_MANIFEST_DIR")).parent();
@@ -18,11 +22,7 @@ pub fn usual_program() -> PathBuf {
 /// Classes, marks and verdict of the file.
 pub fn answers(program: &Path, file: &[u8]) -> Result<Answers, String> {
     if !program.exists() {
-        return Err(format!(
-            "there is no program {}\nrun `rt check query` in the repository's folder to make \
-             target/bin/query, or name a program with --query or {VARIABLE}",
-            program.display()
-        ));
+        return Err(format!("there is no program {}\n{ADVICE}", program.display()));
     }
     let classes = ask(program, "classes", file)?;
     let marks = ask(program, "marks", file)?;
@@ -31,7 +31,7 @@ pub fn answers(program: &Path, file: &[u8]) -> Result<Answers, String> {
         if message.starts_with("refused ") {
             message
         } else {
-            format!("{message}\nthe program is {}", program.display())
+            format!("{message}\nthe program is {}\n{ADVICE}", program.display())
         }
     })
 }
