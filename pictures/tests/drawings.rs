@@ -1,0 +1,120 @@
+//! Pictures of the second checker's examples, of random instruments and of
+//! instruments with as many states as there can be.
+
+mod common;
+
+use std::fs;
+use std::path::Path;
+
+use common::{answers, check_drawings};
+use pictures::component::Component;
+use pictures::graph::Graph;
+use second::fields::write;
+use second::generator;
+use second::instrument::{Instrument, Node, Table};
+use second::notation::from_text;
+use second::prng::Prng;
+
+/// The files of all texts in second/examples.
+fn examples() -> Vec<Vec<u8>> {
+    let folder = Path::new(env!("CARGO_MANIFEST_DIR")).join("../second/examples");
+    let mut files = Vec::new();
+    for entry in fs::read_dir(folder).expect("the folder of examples") {
+        let text = fs::read_to_string(entry.expect("an example").path()).expect("a text");
+        files.push(write(&from_text(&text).expect("a good text")));
+    }
+    files
+}
+
+/// A component of 32 states with every successor set of the given size.
+fn full_size(seed: u64, inputs: usize, successors: usize, different_outputs: usize) -> Instrument {
+    let mut prng = Prng::new(seed);
+    let outputs: Vec<usize> = (0..8).collect();
+    let level = |s: usize, j: usize| ((s % different_outputs) >> j) & 1 == 1;
+    let mut sets = Vec::new();
+    for _ in 0..32 {
+        let mut of_state = Vec::new();
+        for _ in 0..1 << inputs {
+            let mut set: Vec<usize> = (0..successors).map(|_| prng.below(32)).collect();
+            set.sort_unstable();
+            set.dedup();
+            of_state.push(set);
+        }
+        sets.push(of_state);
+    }
+    let table = Table {
+        inputs: (8..8 + inputs).collect(),
+        levels: (0..32).map(|s| outputs.iter().map(|&j| level(s, j)).collect()).collect(),
+        outputs,
+        successors: sets,
+    };
+    let nodes = vec![Node::Signal(0), Node::Ex(0), Node::Eg(1)];
+    Instrument { signals: 12, tables: vec![table], nodes, starts: vec![vec![3]] }
+}
+
+/// Boxes, labels and names in the drawings of steps do not overlap.
+fn check_apart(file: &[u8]) {
+    let instrument = second::reader::read(file).expect("a good file").instrument;
+    for component in Component::all(&instrument, &answers(file)).expect("fitting answers") {
+        for graph in [Graph::of_states(&component), Graph::of_classes(&component)] {
+            if !graph.is_readable() {
+                continue;
+            }
+            let pieces = graph.sketch().pieces;
+            for (i, piece) in pieces.iter().enumerate() {
+                assert!(pieces[..i].iter().all(|other| !other.overlaps(piece)));
+            }
+        }
+    }
+}
+
+#[test]
+fn every_example() {
+    let files = examples();
+    assert!(!files.is_empty());
+    for file in files {
+        check_drawings(&file);
+        check_apart(&file);
+    }
+}
+
+#[test]
+fn random_instruments() {
+    for seed in 0..150 {
+        let file = write(&generator::instrument(&mut Prng::new(seed)));
+        check_drawings(&file);
+        check_apart(&file);
+    }
+}
+
+#[test]
+fn thirty_two_states() {
+    for (inputs, successors, different_outputs) in
+        [(0, 1, 2), (0, 1, 32), (1, 1, 4), (2, 1, 32), (4, 12, 4), (4, 40, 32)]
+    {
+        let file = write(&full_size(5, inputs, successors, different_outputs));
+        check_drawings(&file);
+        check_apart(&file);
+    }
+}
+
+#[test]
+fn the_stored_picture_is_the_one_that_is_drawn() {
+    let file = &second::examples::CHAIN;
+    let files = pictures::command::drawings(file, &answers(file)).expect("drawings");
+    let stored = Path::new(env!("CARGO_MANIFEST_DIR")).join("example/component-0.svg");
+    assert!(fs::read_to_string(stored).expect("the stored picture") == files[0].1);
+}
+
+#[test]
+fn marks_that_do_not_fit_are_an_error() {
+    let file = &second::examples::CHAIN;
+    let mut other = answers(file);
+    other.marks[0].pop();
+    assert!(pictures::command::drawings(file, &other).is_err());
+    let mut other = answers(file);
+    other.classes[0] = vec![0, 0];
+    assert!(pictures::command::drawings(file, &other).is_err());
+    other.classes[0] = vec![0, 0, 1];
+    assert!(pictures::command::drawings(file, &other).is_err());
+}
