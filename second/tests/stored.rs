@@ -14,7 +14,7 @@ fn made() -> &'static [Case] {
 
 #[test]
 fn stored_cases_are_as_made() {
-    let folder = Path::new(env!("CARGO_MANIFEST_DIR")).join("../cases");
+    let folder = Path::new(env!("CARGO_MANIFEST_DIR")).join("../crates/cases");
     assert_eq!(compare(&folder), Ok(made().len()));
 }
 

@@ -1,59 +1,75 @@
 // One question about an instrument file, which is read from standard input:
-//     query stretch C
+//     query full | marks | classes | merged | lookup A B C D | verdict | stretch C
 // The answer is one line or more on standard output; a refusal is the line `refused N`, with document 01's number. Anything else gives one
 // line on how to ask.
-use arguments::Argument;
 use libc::STDIN_FILENO;
-use libc::STDOUT_FILENO;
-use queries::Asked;
-
-mod print;
-
-// What is asked.
-enum Question {
-    Stretch(u32),
-    Nothing,
-}
+use question::Question;
+use queries::Written;
+mod question; // question.rt: what the arguments ask
 
 fn usage() {
-    io::write_all(STDOUT_FILENO, b"usage: query stretch C < FILE\n");
+    printing::text(
+        b"usage: query full | marks | classes | merged | lookup A B C D | verdict | stretch C < FILE\n",
+    );
 }
 
-// Argument i as a number; one that is longer than its room is none.
-fn argument(i: usize) -> Argument {
-    let mut text = [0u8; 16];
-    let n = os::arg(i, &mut text);
-    arguments::number(&text[..n])
-}
-
-// The question for a component.
-fn component() -> Question {
-    match argument(2) {
-        Argument::Number(c) => Question::Stretch(c),
-        Argument::Unusable => Question::Nothing,
+fn full(file: &[u8]) {
+    let mut words = [0u32; 4096];
+    match queries::full_words(file, &mut words) {
+        Written::Refused(r) => printing::refusal_line(r),
+        Written::Entries(n) => printing::words_line(&words, n),
     }
 }
 
-// What the arguments ask.
-fn asked_by_arguments() -> Question {
-    let count = os::arg_count();
-    let mut text = [0u8; 16];
-    let n = os::arg(1, &mut text);
-    if count == 3 && check::same(&text[..n], b"stretch") {
-        return component();
+fn merged(file: &[u8]) {
+    let mut words = [0u32; 4096];
+    match queries::merged_words(file, &mut words) {
+        Written::Refused(r) => printing::refusal_line(r),
+        Written::Entries(n) => printing::words_line(&words, n),
     }
-    Question::Nothing
 }
 
-fn stretch(file: &[u8], c: u32) {
-    match queries::component_refusal(file, c) {
-        Asked::Refused(r) => print::refused(r),
-        Asked::Fine => print::hexadecimal(queries::component_bytes(file, c)),
+// Two words for each of at most 4 components and 24 nodes.
+fn marks(file: &[u8]) {
+    let mut words = [0u32; 192];
+    match queries::mark_words(file, &mut words) {
+        Written::Refused(r) => printing::refusal_line(r),
+        Written::Entries(n) => printing::mark_lines(file, &words, n),
     }
+}
+
+// A byte for each of at most 32 states of at most 4 components.
+fn classes(file: &[u8]) {
+    let mut names = [0u8; 128];
+    match queries::class_names(file, &mut names) {
+        Written::Refused(r) => printing::refusal_line(r),
+        Written::Entries(n) => printing::class_lines(file, &names, n),
+    }
+}
+
+fn lookup(file: &[u8], s0: u32, s1: u32, s2: u32, s3: u32) {
+    printing::looked(queries::lookup(file, s0, s1, s2, s3));
+    printing::line_end();
+}
+
+fn verdict(file: &[u8]) {
+    printing::judged(queries::verdict(file));
+    printing::line_end();
+}
+
+fn stretch(file: &[u8], component: u32) {
+    printing::stretch(file, component);
+    printing::line_end();
 }
 
 fn answer(file: &[u8], asked: Question) {
     match asked {
+        Question::Full => full(file),
+        Question::Marks => marks(file),
+        Question::Classes => classes(file),
+        Question::Merged => merged(file),
+        Question::Lookup(s0, s1, s2, s3) => lookup(file, s0, s1, s2, s3),
+        Question::Verdict => verdict(file),
         Question::Stretch(c) => stretch(file, c),
         Question::Nothing => usage(),
     }
@@ -66,7 +82,7 @@ fn ask(asked: Question) {
 }
 
 fn main() {
-    let asked = asked_by_arguments();
+    let asked = question::asked_by_arguments();
     if let Question::Nothing = asked {
         usage();
         return;

@@ -17,11 +17,20 @@ pub fn run(program: &str, kinds: &[&str]) -> Outcome {
     for case in &cases {
         for words in kinds.iter().flat_map(|kind| questions(kind, case)) {
             let words: Vec<&str> = words.iter().map(String::as_str).collect();
-            compare(program, &words, case)?;
+            compare(program, &words, &words, case)?;
             asked += 1;
         }
     }
     Ok(format!("{} cases, {asked} questions, no difference\n", cases.len()).into_bytes())
+}
+
+/// The same for a program that takes no words and prints the listing.
+pub fn run_listing(program: &str) -> Outcome {
+    let cases = cases();
+    for case in &cases {
+        compare(program, &[], &["listing"], case)?;
+    }
+    Ok(format!("{} cases, no difference\n", cases.len()).into_bytes())
 }
 
 /// The questions of one kind: a lookup for every asked state, a stretch for
@@ -48,8 +57,15 @@ fn first_bytes(file: &[u8]) -> &[u8] {
     &file[..file.len().min(limits::BYTES_READ)]
 }
 
-fn compare(program: &str, words: &[&str], case: &Case) -> Result<(), (String, u8)> {
-    let expected = reply(words, || first_bytes(&case.file).to_vec())?;
+/// Whether the program, given these words, prints what this checker answers
+/// to the question.
+fn compare(
+    program: &str,
+    words: &[&str],
+    question: &[&str],
+    case: &Case,
+) -> Result<(), (String, u8)> {
+    let expected = reply(question, || first_bytes(&case.file).to_vec())?;
     let printed = printed(program, words, &case.file).map_err(|error| (error.to_string(), 1))?;
     if printed == expected {
         return Ok(());
@@ -58,7 +74,7 @@ fn compare(program: &str, words: &[&str], case: &Case) -> Result<(), (String, u8
     let message = format!(
         "{}: {}\nprinted  {}expected {}",
         case.name,
-        words.join(" "),
+        question.join(" "),
         text(&printed),
         text(&expected)
     );

@@ -9,7 +9,7 @@ use crate::self_check::self_check;
 use crate::store;
 
 const SEEDS: u64 = 10_000;
-const FOLDER: &str = "cases";
+const FOLDER: &str = "crates/cases";
 
 pub fn run(words: &[&str]) -> Outcome {
     match words {

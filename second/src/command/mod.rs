@@ -13,7 +13,7 @@ const USAGE: &str = "usage: second COMMAND
   to-file | to-text
   self-check [FIRST] [COUNT] | wrong-readings [COUNT]
   store [FOLDER] | compare [FOLDER]
-  ask PROGRAM QUESTION..";
+  ask PROGRAM QUESTION.. | ask-listing PROGRAM";
 
 /// What a command prints on standard output, or a message and an exit code.
 pub type Outcome = Result<Vec<u8>, (String, u8)>;
@@ -23,6 +23,7 @@ pub fn run(arguments: &[String]) -> ExitCode {
     let outcome = match words.as_slice() {
         ["self-check" | "wrong-readings" | "store" | "compare", ..] => development::run(&words),
         ["ask", program, kinds @ ..] => ask::run(program, kinds),
+        ["ask-listing", program] => ask::run_listing(program),
         ["to-file"] => file_queries::to_file(&standard_input(u64::MAX)),
         [_, ..] => file_queries::run(&words),
         [] => Err((USAGE.to_string(), 2)),

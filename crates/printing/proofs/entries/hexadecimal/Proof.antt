@@ -1,9 +1,9 @@
 use native.Mathlib.Omega.{arith}
+use borrow.Author.Needs.{needs}
 use lib.ListN.{length}
 use Prim.Native.Nat.{_-_, _≤_}
-use borrow.Author.Needs.{needs}
-use Rattle.query.proofs.print.hexadecimal.Statement.{statement}
-use Rattle.query.proofs.print.hexadecimal.Tie as tie
+use Rattle.printing.proofs.entries.hexadecimal.Statement.{statement}
+use Rattle.printing.proofs.entries.hexadecimal.Tie as tie
 
 abbrev Inv-loop : tie.InvT-loop
 Inv-loop bytes i₀ i = i ≤ length bytes
@@ -29,9 +29,6 @@ loop-less c = omega arith
 loop-again : tie.Need-loop-again Inv-loop μ-loop
 loop-again c = omega arith
 
-line-end-requires : tie.Need-line-end-requires Inv-loop μ-loop
-line-end-requires c κs = search needs
-
 returns : tie.Need-returns Inv-loop μ-loop
 returns c = search needs
 
@@ -47,5 +44,4 @@ hexadecimal-spec =
     add-i
     loop-less
     loop-again
-    line-end-requires
     returns)

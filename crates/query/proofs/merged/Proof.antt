@@ -1,0 +1,47 @@
+use borrow.Author.Needs.{needs}
+use Rattle.printing.proofs.Lengths.{entries-fit}
+use Rattle.query.proofs.merged.Statement.{statement}
+use Rattle.query.proofs.merged.Tie as tie
+
+slice-aggregate-merged-words : tie.Need-slice-aggregate-merged-words
+slice-aggregate-merged-words c = search needs
+
+merged-words-requires : tie.Need-merged-words-requires
+merged-words-requires c κs = search needs
+
+enum-known-r : tie.Need-enum-known-r
+enum-known-r c = search needs
+
+refusal-line-requires : tie.Need-refusal-line-requires
+refusal-line-requires c κs = search needs
+
+enum-known-n : tie.Need-enum-known-n
+enum-known-n c = search needs
+
+slice-aggregate-words-line : tie.Need-slice-aggregate-words-line
+slice-aggregate-words-line c = search needs
+
+words-line-requires : tie.Need-words-line-requires
+words-line-requires c κs =
+    let m = c .before .before in
+    entries-fit (m .before .before .before .merged-words .ensures .0) _ (m .n .given .1)
+
+returns : tie.Need-returns
+returns c = search needs
+
+returns-2 : tie.Need-returns-2
+returns-2 c = search needs
+
+pub merged-spec : {M : Type 1} → statement M
+merged-spec =
+    tie.close
+    (tie.spec
+    slice-aggregate-merged-words
+    merged-words-requires
+    enum-known-r
+    refusal-line-requires
+    enum-known-n
+    slice-aggregate-words-line
+    words-line-requires
+    returns
+    returns-2)
