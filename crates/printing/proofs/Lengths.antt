@@ -10,9 +10,9 @@ use Rattle.answers.specs.Listing.{refusalLine}
 use Rattle.text.specs.declared.Text.{Text}
 use Rattle.text.specs.Texts.{textOf}
 use Rattle.report.proofs.Lengths.{refusal-line-short}
-use Rattle.queries.specs.declared.written.Written.{Written}
-use Rattle.queries.specs.declared.written.Written.the-variants.{Entries}
-use Rattle.queries.specs.Written.{Answered, writtenCount}
+use Rattle.entry_queries.specs.declared.Written.{Written}
+use Rattle.entry_queries.specs.declared.Written.the-variants.{Entries}
+use Rattle.entry_queries.specs.Written.{Answered, writtenCount}
 
 text-count : (l : List ℕ) (text : Text) → text ≡ textOf l → text .count ≡ length l
 unfolding textOf
