@@ -1,2 +1,2 @@
--- What the proofs of several functions use.
-mod Codes
+-- answers as numbers, and what an accepted number says
+pub mod Codes
