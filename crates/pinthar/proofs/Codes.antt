@@ -9,15 +9,15 @@ use Rattle.meaning.specs.Reference.Answers.{Outcome, refused, entries, outcomeN
 use Rattle.cursor.specs.Answers.{number}
 use Rattle.cursor.specs.declared.Refusal.{Refusal}
 use Rattle.answers.specs.Outcomes.{outcomeCount, Reply, given, Judgement}
-use Rattle.queries.specs.declared.written.Written.{Written}
-use Rattle.queries.specs.declared.written.Written.the-variants as written
-use Rattle.queries.specs.declared.told.Looked.{Looked}
-use Rattle.queries.specs.declared.told.Looked.the-variants as looked
-use Rattle.queries.specs.declared.told.Judged.{Judged}
-use Rattle.queries.specs.declared.told.Judged.the-variants as judged
-use Rattle.queries.specs.Written.{Answered, writtenNumber, writtenCount}
-use Rattle.queries.specs.Told.{lookedReply, judgedReply}
-use Rattle.queries.proofs.Answering.{number-some}
+use Rattle.entry_queries.specs.declared.Written.{Written}
+use Rattle.entry_queries.specs.declared.Written.the-variants as written
+use Rattle.value_queries.specs.declared.Looked.{Looked}
+use Rattle.value_queries.specs.declared.Looked.the-variants as looked
+use Rattle.value_queries.specs.declared.Judged.{Judged}
+use Rattle.value_queries.specs.declared.Judged.the-variants as judged
+use Rattle.entry_queries.specs.Written.{Answered, writtenNumber, writtenCount}
+use Rattle.value_queries.specs.Told.{lookedReply, judgedReply}
+use Rattle.entry_queries.proofs.Answering.{number-some}
 use Rattle.pinthar.specs.Numbers.{Returned, outcomeCode, writtenCode, lookupCode, truthCode, judgementCode, verdictCode}
 
 -- a refusal's code is not small

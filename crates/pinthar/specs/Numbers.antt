@@ -8,8 +8,8 @@ use Rattle.meaning.specs.Verdict.{Verdict, Stage, holds, fails, marks, merged}
 use Rattle.meaning.specs.Reference.Answers.{Outcome, refused, entries, lentAfter}
 use Rattle.cursor.specs.Answers.{number}
 use Rattle.answers.specs.Outcomes.{Reply, given, denied, Judgement}
-use Rattle.queries.specs.declared.written.Written.{Written}
-use Rattle.queries.specs.declared.written.Written.the-variants.{Entries, Refused}
+use Rattle.entry_queries.specs.declared.Written.{Written}
+use Rattle.entry_queries.specs.declared.Written.the-variants.{Entries, Refused}
 
 -- a question that lends a buffer: how many entries were written
 abbrev pub outcomeCode : Outcome → ℕ

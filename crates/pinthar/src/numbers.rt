@@ -6,7 +6,7 @@ use queries::Written;
 ghost use mathlib.Core.Path.{_≡_};
 ghost use Prim.Native.Nat.{_*_, _^_};
 ghost use Rattle.cursor.specs.Answers.{number};
-ghost use Rattle.queries.specs.Told.{lookedReply, judgedReply};
+ghost use Rattle.value_queries.specs.Told.{lookedReply, judgedReply};
 ghost use Rattle.pinthar.specs.Numbers.{writtenCode, lookupCode, verdictCode};
 
 // A refusal.

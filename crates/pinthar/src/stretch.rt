@@ -6,7 +6,7 @@ ghost use Prim.Native.Nat.{_-_, _*_, _^_};
 ghost use lib.ListN.{take, drop};
 ghost use Rattle.reader.specs.Outcomes.{outcomeNumber, faultNumber};
 ghost use Rattle.reader.specs.Stretches.{located, startOf, endOf};
-ghost use Rattle.queries.specs.Components.{componentBytes};
+ghost use Rattle.stretch_query.specs.Components.{componentBytes};
 
 // A question that is answered or refused.
 fn of_outcome(o: Outcome) -> u64

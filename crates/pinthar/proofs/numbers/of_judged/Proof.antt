@@ -6,7 +6,7 @@ use mir.Val.{boolByte}
 use borrow.Author.Needs.{needs}
 use Rattle.answers.specs.Outcomes.{given}
 use Rattle.report.specs.Report.{judgementFrom}
-use Rattle.queries.specs.Told.{judgedReply}
+use Rattle.value_queries.specs.Told.{judgedReply}
 use Rattle.pinthar.specs.Numbers.{verdictCode}
 use Rattle.pinthar.proofs.numbers.of_judged.Statement.{statement}
 use Rattle.pinthar.proofs.numbers.of_judged.Tie as tie

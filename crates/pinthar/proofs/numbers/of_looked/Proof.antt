@@ -1,6 +1,6 @@
 use mathlib.Core.Path.{_≡_, sym, ap, _∙_}
 use borrow.Author.Needs.{needs}
-use Rattle.queries.specs.Told.{lookedReply}
+use Rattle.value_queries.specs.Told.{lookedReply}
 use Rattle.pinthar.specs.Numbers.{lookupCode}
 use Rattle.pinthar.proofs.numbers.of_looked.Statement.{statement}
 use Rattle.pinthar.proofs.numbers.of_looked.Tie as tie

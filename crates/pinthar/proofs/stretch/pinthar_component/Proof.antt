@@ -3,7 +3,7 @@ use native.Mathlib.Omega.{arith}
 use Prim.Native.Nat.{_-_, _*_, _^_}
 use lib.ListN.{take, drop}
 use borrow.Author.Needs.{needs}
-use Rattle.queries.proofs.Stretches.{inside}
+use Rattle.stretch_query.proofs.Stretches.{inside}
 use Rattle.pinthar.proofs.stretch.pinthar_component.Statement.{statement}
 use Rattle.pinthar.proofs.stretch.pinthar_component.Tie as tie
 
