@@ -1,10 +1,12 @@
 // The answers to every question about stored instrument files, with what is left in lent buffers, in the lines that second/README.md describes
 // (Stored cases). Each argument is the name of a case: its file has that name, the combined states asked are in the file with `.ask` after it.
 use libc::close;
+
 mod byte_entries; // byte_entries.rt: questions whose entries are bytes
 mod lent; // lent.rt: what lent buffers hold before a question
 mod told; // told.rt: the lookups, the verdict and the components' bytes
 mod word_entries; // word_entries.rt: questions whose entries are words
+
 use byte_entries::ByteQuestion;
 use word_entries::WordQuestion;
 ghost use Prim.Native.Nat.{_≤_};

@@ -36,7 +36,12 @@ fn number(b0: u64, b1: u64, b2: u64, b3: u64) -> u32
 fn number_at(bytes: &[u8], at: usize) -> u32
     requires { ⌜ at + 4 ≤ length (now bytes) ⌝ }
 {
-    number(wide(bytes[at]), wide(bytes[at + 1]), wide(bytes[at + 2]), wide(bytes[at + 3]))
+    number(
+        wide(bytes[at]),
+        wide(bytes[at + 1]),
+        wide(bytes[at + 2]),
+        wide(bytes[at + 3]),
+    )
 }
 
 // The lookup of the combined state in the sixteen bytes at a place.

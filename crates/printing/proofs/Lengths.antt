@@ -21,8 +21,7 @@ text-count l text e = ap (λ t. t .count) e
 text-length : (l : List ℕ) (text : Text) → text ≡ textOf l → length (text .bytes) ≡ 2048
 unfolding textOf
 text-length l text e =
-    omega
-    (
+    omega (
       arith,
       ap (λ t. length (t .bytes)) e,
       length-sets (replicate 2048 0) 0 l,
