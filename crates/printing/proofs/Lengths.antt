@@ -21,8 +21,7 @@ text-count l text e = ap (λ t. t .count) e
 text-length : (l : List ℕ) (text : Text) → text ≡ textOf l → length (text .bytes) ≡ 2048
 unfolding textOf
 text-length l text e =
-    omega
-    (
+    omega (
       arith,
       ap (λ t. length (t .bytes)) e,
       length-sets (replicate 2048 0) 0 l,
@@ -42,10 +41,12 @@ line-fits r text e =
     omega (arith, text-count (refusalLine r) text e, text-length (refusalLine r) text e, refusal-line-short r)
 
 -- the entries of an answer stand in the lent buffer
-count-fits : (o : Outcome) (r : Written) (old new : List ℕ) → Answered o r old new → writtenCount r ≤ length new
-count-fits (refused n) r old new a = omega (arith, a .count)
-count-fits (entries vs) r old new a =
-    omega (arith, a .count, ap length (a .buffer), length-append vs (drop (length vs) old))
+lent-room : (o : Outcome) (r : Written) (old new : List ℕ) → Answered o r old new → writtenCount r ≤ length new
+lent-room (refused n) r old new a = omega (arith, a .count)
+lent-room (entries vs) r old new a = omega (arith, a .count, ap length (a .buffer), length-append vs (drop (length vs) old))
+
+pub count-fits : {o : Outcome} {r : Written} {old new : List ℕ} → Answered o r old new → writtenCount r ≤ length new
+count-fits {o} {r} {old} {new} a = lent-room o r old new a
 
 pub entries-fit : {o : Outcome} {r : Written} {old new : List ℕ} → Answered o r old new → (n : ℕ) → r ≡ Entries n → n ≤ length new
-entries-fit {o} {r} {old} {new} a n e = omega (arith, count-fits o r old new a, ap writtenCount e)
+entries-fit {o} {r} {old} {new} a n e = omega (arith, lent-room o r old new a, ap writtenCount e)

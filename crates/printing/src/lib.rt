@@ -1,11 +1,11 @@
 // Answers as text on standard output, for the programs. Where a function's name is not that of a line or of lines, it writes no line end.
 mod entries; // entries.rt: words, marks, class names and bytes
 
+use cursor::Refusal;
 pub use entries::class_lines;
-pub use entries::hexadecimal;
+use entries::hexadecimal;
 pub use entries::mark_lines;
 pub use entries::words_line;
-use cursor::Refusal;
 use libc::STDOUT_FILENO;
 use queries::Asked;
 use queries::Judged;

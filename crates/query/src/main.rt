@@ -3,8 +3,9 @@
 // The answer is one line or more on standard output; a refusal is the line `refused N`, with document 01's number. Anything else gives one
 // line on how to ask.
 use libc::STDIN_FILENO;
-use question::Question;
 use queries::Written;
+use question::Question;
+
 mod question; // question.rt: what the arguments ask
 
 fn usage() {
