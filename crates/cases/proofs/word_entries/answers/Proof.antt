@@ -1,6 +1,6 @@
 use mathlib.Core.Path.{ap}
 use native.Mathlib.Omega.{arith}
-use Rattle.queries.specs.Written.{writtenCount}
+use Rattle.entry_queries.specs.Written.{writtenCount}
 use borrow.Author.Needs.{needs}
 use Rattle.cases.proofs.word_entries.answers.Statement.{statement}
 use Rattle.cases.proofs.word_entries.answers.Tie as tie
