@@ -1,33 +1,81 @@
--- Answers in one number: the refusal's number times 2 ^ 32, and the entries.
-use mathlib.Core.Path.{_≡_, ap₂, _∙_}
+-- Answers as numbers: a question's outcome from its number, and that no refusal is mistaken for an answer.
+use mathlib.Core.Path.{_≡_, refl, sym, ap, _∙_}
+use mathlib.Core.Bool.{Bool, true, false}
 use mathlib.Core.List.{List}
-use lib.ListN.{length}
 use native.Mathlib.Omega.{arith}
-use Prim.Native.Nat.{ℕ, _+_, _*_, _^_, _<_}
+use Prim.Native.Nat.{ℕ, zero, suc, _*_, _^_, _<_}
+use Rattle.meaning.specs.Verdict.{Verdict, Stage, holds, fails, marks, merged}
 use Rattle.meaning.specs.Reference.Answers.{Outcome, refused, entries, outcomeNumber}
-use Rattle.answers.specs.Outcomes.{outcomeCount}
+use Rattle.cursor.specs.Answers.{number}
+use Rattle.cursor.specs.declared.Refusal.{Refusal}
+use Rattle.answers.specs.Outcomes.{outcomeCount, Reply, given, Judgement}
 use Rattle.queries.specs.declared.written.Written.{Written}
-use Rattle.queries.specs.declared.written.Written.the-variants.{Entries, Refused}
+use Rattle.queries.specs.declared.written.Written.the-variants as written
+use Rattle.queries.specs.declared.told.Looked.{Looked}
+use Rattle.queries.specs.declared.told.Looked.the-variants as looked
+use Rattle.queries.specs.declared.told.Judged.{Judged}
+use Rattle.queries.specs.declared.told.Judged.the-variants as judged
 use Rattle.queries.specs.Written.{Answered, writtenNumber, writtenCount}
-use Rattle.pinthar.specs.Numbers.{Returned, outcomeCode}
+use Rattle.queries.specs.Told.{lookedReply, judgedReply}
+use Rattle.queries.proofs.Answering.{number-some}
+use Rattle.pinthar.specs.Numbers.{Returned, outcomeCode, writtenCode, lookupCode, truthCode, judgementCode, verdictCode}
 
--- a number and a count in one
-abbrev pub joined : Written → ℕ
-joined w = writtenNumber w * 2 ^ 32 + writtenCount w
+-- a refusal's code is not small
+refusal-large : {X : Type 0} (c : Refusal) → number c * 2 ^ 32 < 2 ^ 32 → X
+refusal-large c l = absurd (number-some c (omega (arith, l)))
 
-code-joined : (o : Outcome) → outcomeNumber o * 2 ^ 32 + outcomeCount o ≡ outcomeCode o
-code-joined (refused r) = omega arith
-code-joined (entries vs) = omega arith
+-- a written answer has the code of its outcome
+same-code : (o : Outcome) (w : Written) → writtenNumber w ≡ outcomeNumber o → writtenCount w ≡ outcomeCount o → writtenCode w ≡ outcomeCode o
+same-code (refused r) (written.Refused c) n k = ap (λ x. x * 2 ^ 32) n
+same-code (refused r) (written.Entries m) n k = omega (arith, n, k)
+same-code (entries vs) (written.Refused c) n k = absurd (number-some c n)
+same-code (entries vs) (written.Entries m) n k = k
 
--- a written answer is returned as its number
-pub returned : {o : Outcome} {w : Written} {r : ℕ} {old new : List ℕ} → Answered o w old new → r ≡ joined w → Returned o r old new
-returned {o} a e = record { code = e ∙ (ap₂ (λ n k. n * 2 ^ 32 + k) (a .number) (a .count) ∙ code-joined o); buffer = a .buffer }
+module _ {o : Outcome} {w : Written} {r : ℕ} {old new : List ℕ} where
+  pub returned : Answered o w old new → r ≡ writtenCode w → Returned o r old new
+  returned a e = record { code = e ∙ same-code o w (a .number) (a .count); buffer = a .buffer }
 
--- a result below 2 ^ 32 is no refusal
-pub accepted : (w : Written) {r : ℕ} → r ≡ joined w → r < 2 ^ 32 → writtenNumber w ≡ 0
-accepted w e l = omega (arith, e, l)
+  -- a result below 2 ^ 32 is no refusal: both clauses of a call
+  pub both : {X : Type 0} → Answered o w old new → (writtenNumber w ≡ 0 → X) → r ≡ writtenCode w → Returned o r old new × (r < 2 ^ 32 → X)
+  both a m e = (returned a e, λ l. m (accepted w (omega (arith, e, l))))
+    where
+      accepted : (w : Written) → writtenCode w < 2 ^ 32 → writtenNumber w ≡ 0
+      accepted (written.Refused c) l = refusal-large c l
+      accepted (written.Entries m) l = refl
 
--- both clauses of a call
-pub both : {X : Type 0} {o : Outcome} {w : Written} {r : ℕ} {old new : List ℕ} → Answered o w old new → (writtenNumber w ≡ 0 → X) → r ≡ joined w
-    → Returned o r old new × (r < 2 ^ 32 → X)
-both {w = w} a m e = (returned a e, λ l. m (accepted w e l))
+-- the lookup's code gives the truth
+pub looked-same : (l : Looked) (b : Bool) → lookupCode (lookedReply l) ≡ truthCode b → lookedReply l ≡ given b
+looked-same (looked.Root true) true e = refl
+looked-same (looked.Root false) false e = refl
+looked-same (looked.Root true) false e = absurd (omega (arith, e))
+looked-same (looked.Root false) true e = absurd (omega (arith, e))
+looked-same (looked.Refused c) true e = refusal-large c (omega (arith, e))
+looked-same (looked.Refused c) false e = refusal-large c (omega (arith, e))
+
+-- the verdict's code gives the verdict and its stage
+abbrev judgement-of : ℕ → Judgement
+judgement-of zero = record { verdict = fails; stage = marks }
+judgement-of (suc zero) = record { verdict = holds; stage = marks }
+judgement-of (suc (suc zero)) = record { verdict = fails; stage = merged }
+judgement-of (suc (suc (suc n))) = record { verdict = holds; stage = merged }
+
+of-code : (v : Verdict) (g : Stage) → judgement-of (judgementCode v g) ≡ record { verdict = v; stage = g }
+of-code holds marks = refl
+of-code fails marks = refl
+of-code holds merged = refl
+of-code fails merged = refl
+
+small-code : (v : Verdict) (g : Stage) → judgementCode v g < 4
+small-code holds marks = omega arith
+small-code fails marks = omega arith
+small-code holds merged = omega arith
+small-code fails merged = omega arith
+
+same-judgement : (i j : Judgement) → verdictCode (given i) ≡ verdictCode (given j) → given i ≡ given j
+same-judgement i j e =
+    ap given (sym (of-code (i .verdict) (i .stage)) ∙ (ap judgement-of e ∙ of-code (j .verdict) (j .stage)))
+
+pub judged-same : (a : Judged) (j : Judgement) → verdictCode (judgedReply a) ≡ verdictCode (given j) → judgedReply a ≡ given j
+judged-same (judged.Marks h) j e = same-judgement _ j e
+judged-same (judged.Merged h) j e = same-judgement _ j e
+judged-same (judged.Refused c) j e = refusal-large c (omega (arith, e, small-code (j .verdict) (j .stage)))

@@ -1,2 +1,4 @@
--- What the proofs of several functions use.
-mod Codes
+-- answers as numbers, and what an accepted number says
+pub mod Codes
+-- how many entries there are at most, so that a number has both parts
+pub mod Counts

@@ -1,16 +1,46 @@
--- Answers as numbers, for callers that can be handed no enum.
+-- Answers as numbers, for callers that can be handed no enum: a refusal is its number times 2 ^ 32, and an answer is below 2 ^ 32.
 use mathlib.Core.Path.{_≡_}
+use mathlib.Core.Bool.{Bool, true, false}
 use mathlib.Core.List.{List}
 use lib.ListN.{length}
-use Prim.Native.Nat.{ℕ, _*_, _^_}
+use Prim.Native.Nat.{ℕ, _+_, _*_, _^_}
+use Rattle.meaning.specs.Verdict.{Verdict, Stage, holds, fails, marks, merged}
 use Rattle.meaning.specs.Reference.Answers.{Outcome, refused, entries, lentAfter}
+use Rattle.cursor.specs.Answers.{number}
+use Rattle.answers.specs.Outcomes.{Reply, given, denied, Judgement}
+use Rattle.queries.specs.declared.written.Written.{Written}
+use Rattle.queries.specs.declared.written.Written.the-variants.{Entries, Refused}
 
--- a question that lends a buffer: the refusal's number in the upper 32 bits, or how many entries were written, in the lower 32
+-- a question that lends a buffer: how many entries were written
 abbrev pub outcomeCode : Outcome → ℕ
 outcomeCode (refused r) = r * 2 ^ 32
 outcomeCode (entries vs) = length vs
+
+abbrev pub writtenCode : Written → ℕ
+writtenCode (Refused r) = number r * 2 ^ 32
+writtenCode (Entries n) = n
 
 -- the result and the lent buffer are those of the outcome
 pub record Returned (o : Outcome) (r : ℕ) (old new : List ℕ) : Type 0 where
   pub code : r ≡ outcomeCode o
   pub buffer : new ≡ lentAfter o old
+
+-- the lookup: 1 where the root is true, 0 where it is false
+abbrev pub truthCode : Bool → ℕ
+truthCode true = 1
+truthCode false = 0
+
+abbrev pub lookupCode : Reply Bool → ℕ
+lookupCode (given b) = truthCode b
+lookupCode (denied r) = r * 2 ^ 32
+
+-- the verdict: 0 for "fails marks", 1 for "holds marks", 2 for "fails merged", 3 for "holds merged"
+abbrev pub judgementCode : Verdict → Stage → ℕ
+judgementCode fails marks = 0
+judgementCode holds marks = 1
+judgementCode fails merged = 2
+judgementCode holds merged = 3
+
+abbrev pub verdictCode : Reply Judgement → ℕ
+verdictCode (given j) = judgementCode (j .verdict) (j .stage)
+verdictCode (denied r) = r * 2 ^ 32
