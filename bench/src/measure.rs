@@ -1,8 +1,31 @@
-//! Times of calls.
+//! Times of calls: processor time of the calling thread, so that other work on the machine, which
+//! takes the processor away, is not counted. What it does to the caches is.
 
 use std::fmt::{Display, Formatter};
 use std::ops::Div;
-use std::time::{Duration, Instant};
+use std::time::Duration;
+
+/// C's `struct timespec` on 64-bit Linux.
+#[repr(C)]
+struct TimeSpec {
+    seconds: i64,
+    nanoseconds: i64,
+}
+
+const CLOCK_THREAD_CPUTIME_ID: i32 = 3;
+
+extern "C" {
+    fn clock_gettime(clock: i32, time: *mut TimeSpec) -> i32;
+}
+
+/// The processor time that this thread has had.
+pub fn processor_time() -> Duration {
+    let mut time = TimeSpec { seconds: 0, nanoseconds: 0 };
+    // SAFETY: the function writes one timespec, to which the pointer leads.
+    let result = unsafe { clock_gettime(CLOCK_THREAD_CPUTIME_ID, &mut time) };
+    assert!(result == 0, "the thread has a clock");
+    Duration::new(time.seconds as u64, time.nanoseconds as u32)
+}
 
 /// The times of one side's calls on one input.
 #[derive(Default)]
@@ -11,9 +34,9 @@ pub struct Times(Vec<Duration>);
 impl Times {
     /// Runs and times a call.
     pub fn time<T>(&mut self, call: impl FnOnce() -> T) -> T {
-        let start = Instant::now();
+        let start = processor_time();
         let result = call();
-        self.0.push(start.elapsed());
+        self.0.push(processor_time() - start);
         result
     }
 

@@ -1,10 +1,10 @@
 //! Calls of the sides, and the printed tables.
 
 use crate::inputs::Input;
-use crate::measure::Times;
+use crate::measure::{processor_time, Times};
 use crate::plain::{self, Ways};
 use crate::{improved, proved};
-use std::time::{Duration, Instant};
+use std::time::Duration;
 
 /// What the lent buffer holds before each call: not zeros, so that a word left out is seen.
 const UNWRITTEN: u32 = 0xdead_beef;
@@ -42,13 +42,13 @@ impl Side {
 }
 
 /// Calls the sides in turn for about two seconds, at least three times unless that takes longer than
-/// 40 seconds. Ends the program where two answers differ.
+/// 30 seconds. Ends the program where two answers differ.
 fn rounds<const N: usize>(input: &Input, sides: [Side; N]) -> [Times; N] {
     let mut times = sides.map(|_| Times::default());
-    let start = Instant::now();
+    let start = processor_time();
     for round in 0..1000 {
-        let limit = if round < 3 { 40 } else { 2 };
-        if round > 0 && start.elapsed() > Duration::from_secs(limit) {
+        let limit = if round < 3 { 30 } else { 2 };
+        if round > 0 && processor_time() - start > Duration::from_secs(limit) {
             break;
         }
         let mut expected = None;
