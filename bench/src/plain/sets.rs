@@ -1,0 +1,41 @@
+//! Crate kripke, sets: up to 4,096 states, bit s % 64 of word s / 64 for state s.
+
+pub type Set = [u64; 64];
+
+pub fn insert(set: &mut Set, s: usize) {
+    set[s / 64] |= 1 << (s % 64);
+}
+
+pub fn remove(set: &mut Set, s: usize) {
+    set[s / 64] &= !(1 << (s % 64));
+}
+
+/// All states below n.
+pub fn below(n: usize) -> Set {
+    let mut set = [0; 64];
+    set[..n / 64].fill(u64::MAX);
+    if n % 64 > 0 {
+        set[n / 64] = (1 << (n % 64)) - 1;
+    }
+    set
+}
+
+pub fn union(x: &Set, y: &Set) -> Set {
+    std::array::from_fn(|j| x[j] | y[j])
+}
+
+pub fn complement(n: usize, x: &Set) -> Set {
+    let all = below(n);
+    std::array::from_fn(|j| all[j] & !x[j])
+}
+
+/// The lowest member of `a` that is not one of `b`.
+pub fn pick(width: usize, a: &Set, b: &Set) -> Option<usize> {
+    for (j, (&a, &b)) in a[..width].iter().zip(&b[..width]).enumerate() {
+        let rest = a & !b;
+        if rest != 0 {
+            return Some(j * 64 + rest.trailing_zeros() as usize);
+        }
+    }
+    None
+}
