@@ -1,6 +1,6 @@
 // The lines of the listing program as bytes in a lent buffer (document 01, Verdict and listing).
-use entry_queries::Written;
 use cursor::Refusal;
+use entry_queries::Written;
 use instrument::Instrument;
 use reader::Outcome;
 use text::Text;

@@ -21,7 +21,12 @@ fn of_outcome(o: Outcome) -> u64
 // Where the component's part of the file begins, and how many bytes it has: from its state count to its last successor set. Both are 0 where
 // the question is refused.
 #[no_mangle]
-pub extern "C" fn pinthar_component(file: &[u8], component: u32, start: &mut usize, size: &mut usize) -> u64
+pub extern "C" fn pinthar_component(
+    file: &[u8],
+    component: u32,
+    start: &mut usize,
+    size: &mut usize,
+) -> u64
     ensures answer { λ r. ⌜ r ≡ faultNumber (located (now (file .entry)) component) * 2 ^ 32 ⌝ }
     ensures begins { λ r. ⌜ now (start .exit) ≡ startOf (located (now (file .entry)) component) ⌝ }
     ensures bytes { λ r. ⌜ take (now (size .exit)) (drop (now (start .exit)) (now (file .entry))) ≡ componentBytes (now (file .entry)) component ⌝ }
