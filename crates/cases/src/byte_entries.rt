@@ -122,7 +122,7 @@ fn answered(file: &[u8], asked: ByteQuestion, n: usize)
 }
 
 // The answer and the lent buffers; a refusal where the question itself is refused.
-pub fn answers(file: &[u8], asked: ByteQuestion) {
+pub(crate) fn answers(file: &[u8], asked: ByteQuestion) {
     let mut lent = [0u8; 4099];
     fill(&mut lent);
     match ask(file, asked, &mut lent) {

@@ -3,12 +3,12 @@ use cursor::Refusal;
 ghost use Prim.Native.Nat.{_≤_};
 
 // Entry i: neighbours differ.
-pub fn pattern(i: usize) -> u8 {
+pub(crate) fn pattern(i: usize) -> u8 {
     (i % 199) as u8 + 57
 }
 
 // One entry fewer than n, none where there is none.
-pub fn fewer(n: usize) -> usize
+pub(crate) fn fewer(n: usize) -> usize
     ensures { λ r. ⌜ r ≤ n ⌝ }
 {
     if n == 0 {
@@ -18,7 +18,7 @@ pub fn fewer(n: usize) -> usize
 }
 
 // "kept" or "changed", and the line end.
-pub fn kept_line(kept: bool) {
+pub(crate) fn kept_line(kept: bool) {
     if kept {
         printing::text(b" kept\n");
     } else {
@@ -27,14 +27,14 @@ pub fn kept_line(kept: bool) {
 }
 
 // " refused 13 kept".
-pub fn refused_line(r: Refusal, kept: bool) {
+pub(crate) fn refused_line(r: Refusal, kept: bool) {
     printing::text(b" ");
     printing::refusal(r);
     kept_line(kept);
 }
 
 // " long same kept".
-pub fn long_line(same: bool, kept: bool) {
+pub(crate) fn long_line(same: bool, kept: bool) {
     if same {
         printing::text(b" long same");
     } else {

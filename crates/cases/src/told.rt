@@ -56,7 +56,7 @@ fn lookup_at(file: &[u8], states: &[u8], at: usize)
 }
 
 // A lookup for each combined state, sixteen bytes each.
-pub fn lookups(file: &[u8], states: &[u8]) {
+pub(crate) fn lookups(file: &[u8], states: &[u8]) {
     let mut at: usize = 0;
     while 16 <= states.len() - at {
         lookup_at(file, states, at);
@@ -65,7 +65,7 @@ pub fn lookups(file: &[u8], states: &[u8]) {
 }
 
 // "verdict holds marks".
-pub fn verdict(file: &[u8]) {
+pub(crate) fn verdict(file: &[u8]) {
     printing::text(b"verdict ");
     printing::judged(queries::verdict(file));
     printing::line_end();
@@ -81,7 +81,7 @@ fn stretch(file: &[u8], c: u32) {
 }
 
 // Every component, the number after the last, and the largest number. A refused file has no component.
-pub fn stretches(file: &[u8]) {
+pub(crate) fn stretches(file: &[u8]) {
     let reading = reader::read(file);
     let t = reading.instrument;
     let n = t.components;

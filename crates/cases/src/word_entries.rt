@@ -136,7 +136,7 @@ fn answered(file: &[u8], asked: WordQuestion, n: usize)
 }
 
 // The answer and the lent buffers; a refusal where the question itself is refused.
-pub fn answers(file: &[u8], asked: WordQuestion) {
+pub(crate) fn answers(file: &[u8], asked: WordQuestion) {
     let mut lent = [0u32; 4099];
     fill(&mut lent);
     match ask(file, asked, &mut lent) {

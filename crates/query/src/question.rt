@@ -78,7 +78,7 @@ fn asked(count: usize, word: &[u8]) -> Question {
     Question::Nothing
 }
 
-pub fn asked_by_arguments() -> Question {
+pub(crate) fn asked_by_arguments() -> Question {
     let mut word = [0u8; 16];
     let n = os::arg(1, &mut word);
     asked(os::arg_count(), &word[..n])
