@@ -2,6 +2,8 @@
 // faults of the file first. Each contract has the clause `answer`, which equates the result and the lent buffer with what crate answers defines
 // from the file's bytes, and, where there is more to say, `meaning`: what an accepted answer means by paths.
 
+mod listed; // listed.rt: the listing
+
 // A component's own part of the file.
 pub use stretch_query::Asked;
 pub use stretch_query::component_bytes;
@@ -21,5 +23,5 @@ pub use value_queries::lookup;
 pub use value_queries::verdict;
 
 // The listing's text, and the line of a refusal.
-pub use listing_query::listing;
-pub use listing_query::refusal_line;
+pub use listed::listing;
+pub use listed::refusal_line;

@@ -7,11 +7,11 @@ use Rattle.answers.specs.Outcomes.{judgement}
 use Rattle.answers.specs.Listing.{listed}
 use Rattle.entry_queries.specs.declared.Written.the-variants.{Refused}
 use Rattle.entry_queries.specs.Written.{Answered}
-use Rattle.listing_query.proofs.Lines.{listed-refused, listed-same}
+use Rattle.queries.proofs.Lines.{listed-refused, listed-same}
 use Rattle.value_queries.proofs.Telling.{by-marks, by-merging}
 use borrow.Author.Needs.{needs}
-use Rattle.listing_query.proofs.write_listing.Statement.{statement}
-use Rattle.listing_query.proofs.write_listing.Tie as tie
+use Rattle.queries.proofs.listed.write_listing.Statement.{statement}
+use Rattle.queries.proofs.listed.write_listing.Tie as tie
 
 judge-requires : tie.Need-judge-requires
 judge-requires c κs = search needs

@@ -6,8 +6,8 @@ use Rattle.answers.specs.Outcomes.{judgement, verdictOf}
 use Rattle.answers.specs.Listing.{listed, listingOutcome}
 use Rattle.entry_queries.proofs.Answering.{found-by, file-refused, file-answered}
 use borrow.Author.Needs.{needs}
-use Rattle.listing_query.proofs.listing.Statement.{statement}
-use Rattle.listing_query.proofs.listing.Tie as tie
+use Rattle.queries.proofs.listed.listing.Statement.{statement}
+use Rattle.queries.proofs.listed.listing.Tie as tie
 
 read-requires : tie.Need-read-requires
 read-requires c κs = search needs

@@ -4,10 +4,10 @@ use Rattle.answers.specs.Listing.{listingText}
 use Rattle.report.specs.Report.{judgementFrom}
 use Rattle.report.proofs.Copies.{listing-spelled, spelled-count}
 use Rattle.entry_queries.proofs.Answering.{too-short, written}
-use Rattle.listing_query.proofs.Lines.{lines-listed}
+use Rattle.queries.proofs.Lines.{lines-listed}
 use borrow.Author.Needs.{needs}
-use Rattle.listing_query.proofs.write_lines.Statement.{statement}
-use Rattle.listing_query.proofs.write_lines.Tie as tie
+use Rattle.queries.proofs.listed.write_lines.Statement.{statement}
+use Rattle.queries.proofs.listed.write_lines.Tie as tie
 
 all-classes-requires : tie.Need-all-classes-requires
 all-classes-requires c κs = search needs

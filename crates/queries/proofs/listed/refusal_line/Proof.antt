@@ -2,8 +2,8 @@ use mathlib.Core.Path.{ap, _∙_}
 use Rattle.text.specs.Texts.{textOf}
 use Rattle.answers.specs.Listing.{refusalLine}
 use borrow.Author.Needs.{needs}
-use Rattle.listing_query.proofs.refusal_line.Statement.{statement}
-use Rattle.listing_query.proofs.refusal_line.Tie as tie
+use Rattle.queries.proofs.listed.refusal_line.Statement.{statement}
+use Rattle.queries.proofs.listed.refusal_line.Tie as tie
 
 number-requires : tie.Need-number-requires
 number-requires c κs = search needs
