@@ -8,14 +8,11 @@ use Prim.Native.Nat.{ℕ, zero, suc, _*_, _<_}
 use Rattle.meaning.specs.Table.{Table, assignments, fromWords}
 use Rattle.meaning.specs.Reference.Tests.{allBelow, shrink}
 use Rattle.meaning.specs.Reference.Relation.{keepB, largestB, matchedB, meetB, ruleB}
-use Rattle.meaning.proofs.Basic.Bounded.{all-same, any-same}
+use Rattle.meaning.proofs.Basic.Bounded.{Agree, all-same, any-same}
 use Rattle.meaning.proofs.Meaning.Full.{length-upTo}
-use Rattle.classes.specs.Component.{stepTable}
+use Rattle.meaning.specs.StepWords.{stepTable}
 
--- tests that agree on the states below n, and on pairs of them
-abbrev pub Agree : ℕ → (ℕ → Bool) → (ℕ → Bool) → Type 0
-Agree n f g = (x : ℕ) → x < n → f x ≡ g x
-
+-- tests that agree on pairs of states below n
 abbrev pub AgreePairs : ℕ → (ℕ → ℕ → Bool) → (ℕ → ℕ → Bool) → Type 0
 AgreePairs n R S = (x y : ℕ) → x < n → y < n → R x y ≡ S x y
 

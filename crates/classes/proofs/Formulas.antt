@@ -12,7 +12,7 @@ use Rattle.meaning.specs.Formula.{Formula, top, neg, or, ex, eg, eu}
 use Rattle.meaning.specs.View.{View}
 use Rattle.meaning.specs.Reference.Marks.{passB, failB}
 use Rattle.meaning.specs.Reference.Relation.{largestB, relB, ruleB}
-use Rattle.classes.specs.Component.{stepTable}
+use Rattle.meaning.specs.StepWords.{stepTable}
 use Rattle.classes.specs.Rows.{rel, rows}
 use Rattle.classes.specs.Related.{relatedAll, relatedBoth, relatedEx, relatedFixed}
 use Rattle.classes.proofs.Rows.{rel-rows, rows-same}

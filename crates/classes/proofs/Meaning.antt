@@ -21,7 +21,7 @@ use Rattle.meaning.proofs.Basic.Decides.{Decides, DecidesPairs, both-decide}
 use Rattle.meaning.proofs.Classes.Largest.{relation-decides, relation-in, relation-out}
 use Rattle.meaning.proofs.Classes.Names.{names-lowest, name-related, related-name}
 use Rattle.meaning.proofs.Classes.Rules.{rule-decides, rule-map}
-use Rattle.classes.specs.Component.{stepTable}
+use Rattle.meaning.specs.StepWords.{stepTable}
 use Rattle.classes.specs.Rows.{rel, rows}
 use Rattle.classes.specs.Related.{relatedAll, relatedLevel, relatedBoth, relatedEx, relatedFixed}
 use Rattle.classes.specs.Names.{Inhabited, classNames, classCount, memberWord}

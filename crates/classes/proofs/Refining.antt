@@ -17,7 +17,7 @@ use Rattle.meaning.proofs.Basic.Booleans.{and-in, and-l, and-r, test-eq}
 use Rattle.meaning.proofs.Basic.Decides.{DecidesPairs, test-decides}
 use Rattle.meaning.proofs.Classes.Largest.{relation-out, relation-decides}
 use Rattle.meaning.proofs.Classes.Rules.{rule-in, rule-map, rule-out}
-use Rattle.classes.specs.Component.{stepTable}
+use Rattle.meaning.specs.StepWords.{stepTable}
 use Rattle.classes.specs.Rows.{rel, rows}
 use Rattle.classes.specs.Related.{relatedEx, relatedFixed}
 use Rattle.classes.specs.Loops.{Refining}

@@ -7,7 +7,7 @@ use lib.ListN.{getD}
 use Prim.Native.Nat.{ℕ, _≤_, _<_}
 use Rattle.words.specs.Sets.{has}
 use Rattle.meaning.specs.Reference.Relation.{matchedB, ruleB}
-use Rattle.classes.specs.Component.{stepTable}
+use Rattle.meaning.specs.StepWords.{stepTable}
 use Rattle.classes.specs.Rows.{rel}
 use Rattle.classes.specs.Related.{relatedEx}
 use Rattle.classes.specs.Matching.{conversed, matchedBy, matchedRows, rules, ruled}

@@ -1,5 +1,4 @@
 -- What the public contracts say
-pub mod Component
 pub mod Rows
 pub mod Related
 pub mod Names

@@ -10,7 +10,7 @@ use Rattle.meaning.specs.Tests.{anyBelow}
 use Rattle.meaning.specs.Classes.{classesBelow}
 use Rattle.meaning.specs.Reference.Tests.{allBelow}
 use Rattle.meaning.specs.Reference.Relation.{largestB}
-use Rattle.classes.specs.Component.{stepTable}
+use Rattle.meaning.specs.StepWords.{stepTable}
 use Rattle.classes.specs.Rows.{padded, rel}
 use Rattle.classes.specs.Matching.{matchedOn}
 

@@ -8,7 +8,7 @@ use Prim.Native.Nat.{ℕ}
 use Rattle.words.specs.Sets.{has, built}
 use Rattle.meaning.specs.Reference.Tests.{allBelow}
 use Rattle.meaning.specs.Reference.Relation.{meetB, matchedB}
-use Rattle.classes.specs.Component.{stepTable}
+use Rattle.meaning.specs.StepWords.{stepTable}
 use Rattle.classes.specs.Rows.{rel, rows}
 
 -- y and x where x and y are related

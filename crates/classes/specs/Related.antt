@@ -6,7 +6,7 @@ use lib.ListN.{getD}
 use Prim.Native.Nat.{ℕ}
 use Rattle.words.specs.Sets.{has}
 use Rattle.meaning.specs.Reference.Relation.{ruleB, largestB}
-use Rattle.classes.specs.Component.{stepTable}
+use Rattle.meaning.specs.StepWords.{stepTable}
 use Rattle.classes.specs.Rows.{rel, rows}
 
 -- "True, foreign signal: always."

@@ -8,14 +8,14 @@ ghost use Prim.Native.Nat.{_+_, _*_, _^_, _≤_, _<_};
 ghost use lib.ListN.{length};
 ghost use Rattle.words.specs.Sets as sets;
 ghost use Rattle.meaning.specs.Tests.{anyBelow};
-ghost use Rattle.classes.specs.Component as component;
+ghost use Rattle.meaning.specs.StepWords as component;
 ghost use Rattle.classes.specs.Rows.{rel};
 ghost use Rattle.classes.specs.Matching as matched;
 
 // The successor word of state x on assignment a.
 fn successors(succ: &[u32], inputs: usize, x: usize, a: usize) -> u32
     requires { ⌜ (inputs ≤ 4) × (2 ^ inputs * x + a < length (now succ)) ⌝ }
-    ensures { λ r. ⌜ r ≡ component.successors inputs (now (succ .entry)) x a ⌝ }
+    ensures { λ r. ⌜ r ≡ component.successorWord inputs (now (succ .entry)) x a ⌝ }
 {
     let count = 1usize << inputs;
     succ[count * x + a]
@@ -39,7 +39,7 @@ fn image(r: [u32; 32], states: usize, w: u32) -> u32
 fn covered(succ: &[u32], states: usize, inputs: usize, a: usize, live: u32, m: u32) -> u32
     requires { ⌜ component.Steps states inputs (now succ) × (a < 2 ^ inputs) ⌝ }
     ensures { λ r.
-        ⌜ r ≡ sets.built states (λ y. sets.subset (sets.intersection (component.successors inputs (now (succ .entry)) y a) live) m) ⌝ }
+        ⌜ r ≡ sets.built states (λ y. sets.subset (sets.intersection (component.successorWord inputs (now (succ .entry)) y a) live) m) ⌝ }
 {
     let mut result: u32 = 0;
     let mut y: usize = 0;

@@ -8,7 +8,7 @@ ghost use Prim.Native.Nat.{_≤_, _<_};
 ghost use lib.ListN.{length, getD};
 ghost use lib.Dec.{eqb};
 ghost use Rattle.words.specs.Sets.{built};
-ghost use Rattle.classes.specs.Component.{Steps};
+ghost use Rattle.meaning.specs.StepWords.{Steps};
 ghost use Rattle.classes.specs.Related.{relatedEx, relatedFixed};
 ghost use Rattle.classes.specs.Matching as matched;
 

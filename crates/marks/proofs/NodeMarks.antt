@@ -29,15 +29,12 @@ use Rattle.marks.proofs.Formulas.{formula-range, formula-true, formula-
 use Rattle.marks.proofs.Tables.{ex-steps, eg-steps, eu-steps}
 use Rattle.marks.proofs.Written.{written-start, written-end, join-list, singles-more, singles-below, singles-past}
 
--- no known kind; and one number more that the kind is not
+-- no known kind
 pub kind-unknown : (states inputs : ℕ) (outputs outs succ : List ℕ) (kind w : ℕ) (a b : Mark) → 7 ≤ kind
     → kindMark states inputs outputs outs succ kind w a b ≡ noMark
 kind-unknown states inputs outputs outs succ kind w a b h =
     let e : kind ≡ suc (suc (suc (suc (suc (suc (suc (kind - 7))))))) = omega arith in
     ap (λ k. kindMark states inputs outputs outs succ k w a b) e
-
-pub past : {i k : ℕ} → i ≤ k → (k ≡ i → ⊥) → suc i ≤ k
-past h n = omega arith
 
 -- operands that are earlier nodes are nodes
 pub operands-listed : (nodes : List stored.Node) (count : ℕ) (ns : List (Node ℕ)) → Listing nodes count ns → (k : ℕ) → k < count

@@ -11,7 +11,7 @@ use Rattle.meaning.specs.Reference.Tests.{allBelow, shrink, grow}
 use Rattle.meaning.specs.Reference.Marks.{mustB, canB}
 use Rattle.meaning.proofs.Meaning.Full.{length-upTo}
 use Rattle.marks.specs.declared.Mark.{Mark}
-use Rattle.marks.specs.Component.{stepTable}
+use Rattle.meaning.specs.StepWords.{stepTable}
 use Rattle.marks.specs.Rules.{exMark, egMark, euMark, exPass, exFail, egPass, egFail, euPass, euFail}
 use Rattle.marks.proofs.Rules.{mark-is}
 

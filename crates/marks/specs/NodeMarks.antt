@@ -19,7 +19,7 @@ use Rattle.instrument.specs.declared.Instrument.{Instrument}
 use Rattle.instrument.specs.Layout.{nodeOf}
 use Rattle.instrument.specs.Described.{Describes}
 use Rattle.marks.specs.declared.Mark.{Mark}
-use Rattle.marks.specs.Component.{stepTable}
+use Rattle.meaning.specs.StepWords.{stepTable}
 use Rattle.marks.specs.Formulas.{formulaMark}
 use Rattle.marks.specs.Written.{Written}
 use Rattle.marks.specs.Rules.{trueMark, notMark, orMark, exMark, egMark, euMark}

@@ -42,7 +42,7 @@ use Rattle.meaning.proofs.Basic.Bounded.{all-out}
 use Rattle.meaning.proofs.Basic.Decides.{Decides}
 use Rattle.meaning.proofs.Basic.Lists.{all-map, all-sound}
 use Rattle.meaning.proofs.Demands.{full-way, merged-bits, root-class-names, root-equivalence, verdict-right}
-use Rattle.meaning.proofs.File.Nodes.{beneath-in, beneath-le, beneath-out}
+use Rattle.meaning.proofs.File.Nodes.{beneath-in, beneath-listed, beneath-out}
 use Rattle.meaning.proofs.File.Promise.{accepted-sound}
 use Rattle.meaning.proofs.Marks.Decided.{fail-decides, pass-decides}
 use Rattle.meaning.proofs.Marks.Laws.{Fits}
@@ -213,18 +213,12 @@ module _ (I : Instrument) where
       beneath-in (I .nodes) (accepted .earlier) (suc (rootNode I)) k (rootNode I) (omega arith),
     )
 
-    under-lt : (k : ℕ) → Beneath (I .nodes) k (rootNode I) → k < length (I .nodes)
-    under-lt k b =
-        let z = beneath-le (I .nodes) (accepted .earlier) k (rootNode I) b in
-        let r = accepted .rooted in
-        omega arith
-
     short : (ws : List ℕ) → T (factB (mergedWords ws)) → Means I (mergedWords ws)
     short ws h = (
       cls,
       names,
       eqb→eq (length ws) (mergedCount n S cls) (search conj),
-      λ c k. (λ b. word c k .0 b .1, λ p. word c k .1 (under-lt k (p .0), p)),
+      λ c k. (λ b. word c k .0 b .1, λ p. word c k .1 (beneath-listed (I .nodes) (accepted .earlier) k (accepted .rooted) (p .0), p)),
     )
       where
         True : State n (mergedTables n S cls) → ℕ → Type 0

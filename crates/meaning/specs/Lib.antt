@@ -23,3 +23,5 @@ pub mod Verdict
 pub mod Cases
 -- The same as functions that compute; what they compute is proved to be the above.
 pub mod Reference
+-- The steps of one component as the engines are lent them
+pub mod StepWords

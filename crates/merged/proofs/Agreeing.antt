@@ -14,56 +14,52 @@ use Rattle.meaning.specs.Combination.{high, count, index}
 use Rattle.meaning.specs.Reference.Tests.{shrink, grow}
 use Rattle.meaning.specs.Reference.Marks.{onB, canB, holdB, reachB}
 use Rattle.meaning.specs.Reference.Truth.{part, product}
-use Rattle.meaning.proofs.Basic.Bounded.{any-same, all-same}
+use Rattle.meaning.proofs.Basic.Bounded.{Agree, any-same, all-same}
 use Rattle.meaning.proofs.File.Tables.{reading-lt, reading-same}
 use Rattle.meaning.proofs.Meaning.Index.{part-lt}
 use Rattle.combination.specs.Combined.{barredAt}
 use Rattle.truth.specs.Nodes.{nodeB, nodesB, truthOf, combinedB}
 use Rattle.merging.proofs.Tables.{Agreeing}
 
--- tests that agree below n
-abbrev Same : ℕ → (ℕ → Bool) → (ℕ → Bool) → Type 0
-Same n p q = (x : ℕ) → x < n → p x ≡ q x
-
 -- rounds of operators that agree on sets that agree
-module _ (n : ℕ) (F G : (ℕ → Bool) → ℕ → Bool) (h : (Y Z : ℕ → Bool) → Same n Y Z → Same n (F Y) (G Z)) where
-  shrink-same : (k : ℕ) → Same n (shrink F k) (shrink G k)
+module _ (n : ℕ) (F G : (ℕ → Bool) → ℕ → Bool) (h : (Y Z : ℕ → Bool) → Agree n Y Z → Agree n (F Y) (G Z)) where
+  shrink-same : (k : ℕ) → Agree n (shrink F k) (shrink G k)
   shrink-same zero x l = refl
   shrink-same (suc k) x l = h (shrink F k) (shrink G k) (shrink-same k) x l
 
-  grow-same : (k : ℕ) → Same n (grow F k) (grow G k)
+  grow-same : (k : ℕ) → Agree n (grow F k) (grow G k)
   grow-same zero x l = refl
   grow-same (suc k) x l = h (grow F k) (grow G k) (grow-same k) x l
 
 -- truth over the paths of two tables that agree
 module _ (t u : Table) (e : Agreeing t u) where
-  on-same : (Y Z : ℕ → Bool) → Same (u .states) Y Z → (x : ℕ) → x < u .states → (a : ℕ) → a < assignments u → onB t Y x a ≡ onB u Z x a
+  on-same : (Y Z : ℕ → Bool) → Agree (u .states) Y Z → (x : ℕ) → x < u .states → (a : ℕ) → a < assignments u → onB t Y x a ≡ onB u Z x a
   on-same Y Z h x l a b =
       ap (λ n. anyBelow n (λ y. t .next x a y && Y y)) (e .states)
       ∙ any-same (u .states) (λ y. t .next x a y && Y y) (λ y. u .next x a y && Z y) (λ y k. ap₂ (λ p q. p && q) (e .next x a y l b k) (h y k))
 
-  can-same : (Y Z : ℕ → Bool) → Same (u .states) Y Z → Same (u .states) (canB t Y) (canB u Z)
+  can-same : (Y Z : ℕ → Bool) → Agree (u .states) Y Z → Agree (u .states) (canB t Y) (canB u Z)
   can-same Y Z h x l =
       ap (λ zs. anyBelow (2 ^ length zs) (onB t Y x)) (e .inputs)
       ∙ any-same (assignments u) (onB t Y x) (onB u Z x) (λ a b. on-same Y Z h x l a b)
 
-  module _ (p q : ℕ → Bool) (s : Same (u .states) p q) where
-    hold-same : (Y Z : ℕ → Bool) → Same (u .states) Y Z → Same (u .states) (holdB t p Y) (holdB u q Z)
+  module _ (p q : ℕ → Bool) (s : Agree (u .states) p q) where
+    hold-same : (Y Z : ℕ → Bool) → Agree (u .states) Y Z → Agree (u .states) (holdB t p Y) (holdB u q Z)
     hold-same Y Z h x l = ap₂ (λ a b. a && b) (s x l) (can-same Y Z h x l)
 
-    reach-same : (p₂ q₂ : ℕ → Bool) → Same (u .states) p₂ q₂ → (Y Z : ℕ → Bool) → Same (u .states) Y Z
-        → Same (u .states) (reachB t p p₂ Y) (reachB u q q₂ Z)
+    reach-same : (p₂ q₂ : ℕ → Bool) → Agree (u .states) p₂ q₂ → (Y Z : ℕ → Bool) → Agree (u .states) Y Z
+        → Agree (u .states) (reachB t p p₂ Y) (reachB u q q₂ Z)
     reach-same p₂ q₂ s₂ Y Z h x l = ap₂ (λ a b. a || b) (s₂ x l) (hold-same Y Z h x l)
 
   module _
       {A : Type 0}
       (a b : A → ℕ → Bool)
-      (atoms : (w : A) → Same (u .states) (a w) (b w))
+      (atoms : (w : A) → Agree (u .states) (a w) (b w))
       (c d : ℕ → ℕ → Bool)
-      (bars : (k : ℕ) → Same (u .states) (c k) (d k))
+      (bars : (k : ℕ) → Agree (u .states) (c k) (d k))
     where
-      node-same : (k : ℕ) (m : Node A) (f g : ℕ → ℕ → Bool) → ((i : ℕ) → Same (u .states) (f i) (g i))
-          → Same (u .states) (nodeB t a c k m f) (nodeB u b d k m g)
+      node-same : (k : ℕ) (m : Node A) (f g : ℕ → ℕ → Bool) → ((i : ℕ) → Agree (u .states) (f i) (g i))
+          → Agree (u .states) (nodeB t a c k m f) (nodeB u b d k m g)
       node-same k top f g h x l = refl
       node-same k (atom w) f g h x l = atoms w x l
       node-same k (neg i) f g h x l = ap not (h i x l)
@@ -72,7 +68,7 @@ module _ (t u : Table) (e : Agreeing t u) where
       node-same k (eg i) f g h x l =
           let p : ℕ → Bool = λ y. f i y && not (c k y) in
           let q : ℕ → Bool = λ y. g i y && not (d k y) in
-          let s : Same (u .states) p q = λ y z. ap₂ (λ v w. v && not w) (h i y z) (bars k y z) in
+          let s : Agree (u .states) p q = λ y z. ap₂ (λ v w. v && not w) (h i y z) (bars k y z) in
           ap (λ n. shrink (holdB t p) n x) (e .states)
           ∙ shrink-same (u .states) (holdB t p) (holdB u q) (hold-same p q s) (u .states) x l
       node-same k (eu i j) f g h x l =
@@ -80,12 +76,12 @@ module _ (t u : Table) (e : Agreeing t u) where
           ∙ grow-same (u .states) (reachB t (f i) (f j)) (reachB u (g i) (g j)) (reach-same (f i) (g i) (h i) (f j) (g j) (h j)) (u .states) x l
 
       module _ (nodes : List (Node A)) where
-        nodes-same : (n k : ℕ) → Same (u .states) (nodesB t a c nodes n k) (nodesB u b d nodes n k)
+        nodes-same : (n k : ℕ) → Agree (u .states) (nodesB t a c nodes n k) (nodesB u b d nodes n k)
         nodes-same zero k x l = refl
         nodes-same (suc n) k x l =
             node-same k (nodeAt nodes k) (nodesB t a c nodes n) (nodesB u b d nodes n) (nodes-same n) x l
 
-        pub truth-same : (k : ℕ) → Same (u .states) (truthOf t a c nodes k) (truthOf u b d nodes k)
+        pub truth-same : (k : ℕ) → Agree (u .states) (truthOf t a c nodes k) (truthOf u b d nodes k)
         truth-same k = nodes-same (suc k) k
 
 -- parts, count and index by sizes that agree

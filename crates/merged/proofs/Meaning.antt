@@ -23,7 +23,7 @@ use Rattle.meaning.specs.Reference.Nodes.{beneathB}
 use Rattle.meaning.proofs.Basic.Booleans.{and-in, and-l, and-r, test-eq}
 use Rattle.meaning.proofs.Basic.Entries.{list-at, list-length}
 use Rattle.meaning.proofs.Claims.{merged-01, merged-bits-01, merged-state-01, lookup-01}
-use Rattle.meaning.proofs.File.Nodes.{beneath-in, beneath-le, beneath-out}
+use Rattle.meaning.proofs.File.Nodes.{beneath-in, beneath-listed, beneath-out}
 use Rattle.meaning.proofs.Meaning.Index.{index-lt, index-same}
 use Rattle.merged.specs.Words.{underRoot}
 
@@ -65,10 +65,6 @@ module _ (I : Instrument) (ok : Accepted I) where
       let p = merged-bits-01 I ok k c in
       (λ h. m .0 (p .0 (subst (λ x. T (bit k x)) (sym i) h)), λ h. subst (λ x. T (bit k x)) i (p .1 (m .1 h)))
 
-  -- a node under the root is one of the nodes
-  beneath-listed : (k : ℕ) → Beneath (I .nodes) k (rootNode I) → k < length (I .nodes)
-  beneath-listed k b = omega (arith, beneath-le (I .nodes) (ok .earlier) k (rootNode I) b, ok .rooted)
-
   -- what is in the word of the root and the nodes under it
   pub under-root-has : (k : ℕ) → T (has (underRoot I) k) ↔ Beneath (I .nodes) k (rootNode I)
   unfolding underRoot
@@ -77,7 +73,7 @@ module _ (I : Instrument) (ok : Accepted I) where
         let l = has-built-lt (length (I .nodes)) under k h in
         beneath-out (I .nodes) (suc (rootNode I)) k (rootNode I) (subst T (has-built (length (I .nodes)) under k l) h),
     λ b.
-        subst T (sym (has-built (length (I .nodes)) under k (beneath-listed k b)))
+        subst T (sym (has-built (length (I .nodes)) under k (beneath-listed (I .nodes) (ok .earlier) k (ok .rooted) b)))
         (beneath-in (I .nodes) (ok .earlier) (suc (rootNode I)) k (rootNode I) (omega arith) b),
   )
 
@@ -87,7 +83,7 @@ module _ (I : Instrument) (ok : Accepted I) where
   words-truth k b s =
       let x = mergedIndex n S (classesAt I) (s .at) in
       let e : has (getD (mergedWords I) x 0) k ≡ (under k && bit k x) =
-      ap (λ w. has w k) (word-at x (index-below s)) ∙ has-built (length (I .nodes)) (λ k. under k && bit k x) k (beneath-listed k b)
+      ap (λ w. has w k) (word-at x (index-below s)) ∙ has-built (length (I .nodes)) (λ k. under k && bit k x) k (beneath-listed (I .nodes) (ok .earlier) k (ok .rooted) b)
       in
       let t = bit-truth k b s in
       let u : T (under k) = beneath-in (I .nodes) (ok .earlier) (suc (rootNode I)) k (rootNode I) (omega arith) b in (

@@ -1,6 +1,6 @@
 -- The numbers of classes: the loop over the components, and what stands in the counts.
 use mathlib.Core.Path.{_≡_, refl, ap, ap₂, _∙_}
-use mathlib.Core.Bool.{Bool, true, false, cond}
+use mathlib.Core.Bool.{cond}
 use mathlib.Core.List.{List, [], _∷_}
 use lib.Dec.{eqb}
 use lib.ListN.{getD, set, replicate, length-replicate, getD-replicate}
@@ -15,7 +15,7 @@ use Rattle.meaning.specs.File.Promise.{Within}
 use Rattle.meaning.specs.Reference.Answers.{listBelow, classesAt}
 use Rattle.meaning.proofs.Basic.Entries.{list-length, list-same}
 use Rattle.meaning.proofs.File.Accepted.{accepted}
-use Rattle.meaning.proofs.Merged.Numbers.{number-lt}
+use Rattle.meaning.proofs.Merged.Numbers.{classes-few, number-lt}
 use Rattle.instrument.specs.declared.Instrument as stored
 use Rattle.instrument.specs.Described.{Describes}
 use Rattle.instrument.proofs.Rows.{sets-after}
@@ -48,15 +48,6 @@ below-same : (f g : ℕ → ℕ) (n : ℕ) → ((x : ℕ) → x < n → f x ≡ 
 below-same f g zero h = refl
 below-same f g (suc n) h =
     ap₂ (λ a b. cond (eqb a n) 1 0 + b) (h n (omega arith)) (below-same f g n (λ x l. h x (omega arith)))
-
--- there are at most as many classes as states
-below-le : (f : ℕ → ℕ) (n : ℕ) → classesBelow f n ≤ n
-below-le f zero = omega arith
-below-le f (suc n) = one (eqb (f n) n) (below-le f n)
-  where
-    one : (b : Bool) → classesBelow f n ≤ n → cond b 1 0 + classesBelow f n ≤ suc n
-    one true h = omega arith
-    one false h = omega arith
 
 -- the counts of document 01's classes: of a component, and past the last one
 pub count-at : (I : Instrument) → components I ≤ 4 → (i : ℕ) → i < components I
@@ -103,7 +94,7 @@ module _ (t : stored.Instrument) (k : Contents) (d : Describes t k) where
   count-within i l =
       rw (described-count i l) (
         omega (arith, number-lt (classesAt I i) (table I i) 0 (class-lt I good i l 0 some) (class-class I good i l 0 some)),
-        omega (arith, below-le (classesAt I i) (table I i .states), few-states t k d i l),
+        omega (arith, classes-few (classesAt I i) (table I i .states), few-states t k d i l),
       )
     where
       good : Accepted I

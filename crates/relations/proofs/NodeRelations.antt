@@ -3,9 +3,9 @@ use mathlib.Core.Path.{_≡_, refl, ap, _∙_}
 use mathlib.Core.List.{List, [], _∷_}
 use lib.ListN.{length, getD, set, replicate, length-replicate}
 use lib.Seq.{sets}
-use native.Mathlib.Nat.{zero-add, mul-comm}
+use native.Mathlib.Nat.{zero-add}
 use native.Mathlib.Omega.{arith}
-use Prim.Native.Nat.{ℕ, suc, _+_, _-_, _^_, _≤_, _<_}
+use Prim.Native.Nat.{ℕ, suc, _+_, _-_, _≤_, _<_}
 use Rattle.meaning.specs.Formula.{Formula}
 use Rattle.meaning.specs.Nodes.{Node, top, atom, neg, or, ex, eg, eu, Operand, of-neg, of-or-l, of-or-r, of-ex, of-eg, of-eu-l, of-eu-r}
 use Rattle.meaning.specs.Nodes.{nodeAt, formulaOf, formulaAt}
@@ -18,27 +18,14 @@ use Rattle.instrument.specs.declared.Node as stored
 use Rattle.instrument.specs.Layout.{nodeOf}
 use Rattle.instrument.proofs.Rows.{sets-in}
 use Rattle.marks.specs.declared.Mark.{Mark}
-use Rattle.marks.specs.Component as marked
 use Rattle.marks.specs.Formulas.{formulaMark}
 use Rattle.marks.specs.NodeMarks.{noMark, Listing}
 use Rattle.marks.specs.Written.{Written}
 use Rattle.marks.proofs.Written.{written-start, written-end, join-list, singles-more}
-use Rattle.classes.specs.Component.{Steps}
 use Rattle.classes.specs.Related.{relatedAll}
 use Rattle.classes.proofs.Formulas.{top-rows, or-rows, ex-rows, eg-rows, eu-rows}
 use Rattle.relations.specs.Relations.{formulaRelation, signalRelation, comparing, noRelation, kindRelation, ruleRelation}
 use Rattle.relations.specs.Relations.{Marked, listRelations, RelatedNodes, Relating}
-
--- the lent steps are as the rules of marks and as those of classes require them
-pub steps-lent : (states inputs : ℕ) (succ : List ℕ) → marked.Steps states inputs succ → Steps states inputs succ
-steps-lent states inputs succ s =
-    record {
-      some = s .some;
-      most = s .most-states;
-      few = s .most-inputs;
-      long = omega (arith, s .room, mul-comm states (2 ^ inputs));
-      small = s .narrow;
-    }
 
 -- no known kind
 pub kind-unknown : (states inputs : ℕ) (outputs outs succ compared : List ℕ) (kind w : ℕ) (mark under : Mark) (a b : List ℕ) → 7 ≤ kind

@@ -1,15 +1,14 @@
 -- How large the full and the merged combination are at most: four components of 32 states.
-use mathlib.Core.Bool.{Bool, true, false, cond}
-use lib.Dec.{eqb}
 use native.Mathlib.Nat.{mul-le-mul, pow-le-pow-right, pow-suc}
 use native.Mathlib.Omega.{arith}
-use Prim.Native.Nat.{ℕ, zero, suc, _+_, _*_, _^_, _≤_, _<_}
+use Prim.Native.Nat.{ℕ, zero, suc, _*_, _^_, _≤_, _<_}
 use Rattle.meaning.specs.Classes.{classesBelow}
 use Rattle.meaning.specs.Combination.{count}
 use Rattle.meaning.specs.Instrument.{components, table}
 use Rattle.meaning.specs.File.Grammar.{Contents, instrumentOf, limits}
 use Rattle.meaning.specs.File.Promise.{Promised}
 use Rattle.meaning.specs.Reference.Answers.{classesAt, fullCount, mergedSize}
+use Rattle.meaning.proofs.Merged.Numbers.{classes-few}
 use Rattle.report.proofs.Lengths.{few-components, few-states}
 
 count-le : (n : ℕ) (m : ℕ → ℕ) → ((i : ℕ) → i < n → m i ≤ 32) → count n m ≤ 32 ^ n
@@ -18,15 +17,6 @@ count-le (suc n) m h =
     let q : m 0 * count n (λ i. m (suc i)) ≤ 32 * 32 ^ n =
     mul-le-mul (h 0 (omega arith)) (count-le n (λ i. m (suc i)) (λ i l. h (suc i) (omega arith))) in
     omega (arith, q, pow-suc 32 n)
-
--- there are at most as many classes as states
-one-more : (b : Bool) (v n : ℕ) → v ≤ n → cond b 1 0 + v ≤ suc n
-one-more true v n h = omega arith
-one-more false v n h = omega arith
-
-pub classes-le : (cls : ℕ → ℕ) (n : ℕ) → classesBelow cls n ≤ n
-classes-le cls zero = omega arith
-classes-le cls (suc n) = one-more (eqb (cls n) n) (classesBelow cls n) n (classes-le cls n)
 
 module _ (k : Contents) (p : Promised limits k) where
   power-le : 32 ^ components (instrumentOf k) ≤ 1048576
@@ -41,5 +31,5 @@ module _ (k : Contents) (p : Promised limits k) where
         arith,
         power-le,
         count-le (components (instrumentOf k)) (λ i. classesBelow (classesAt (instrumentOf k) i) (table (instrumentOf k) i .states)) (λ i l.
-            omega (arith, few-states k p i l, classes-le (classesAt (instrumentOf k) i) (table (instrumentOf k) i .states))),
+            omega (arith, few-states k p i l, classes-few (classesAt (instrumentOf k) i) (table (instrumentOf k) i .states))),
       )

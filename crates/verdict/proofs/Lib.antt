@@ -1,5 +1,3 @@
--- Tests of a list's members and of its places
-pub mod Lists
 -- the starts by marks
 pub mod Starts
 -- the starts by merged words

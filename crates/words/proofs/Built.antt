@@ -11,7 +11,7 @@ use native.Mathlib.Numerals.{add-one}
 use native.Mathlib.Omega.{arith}
 use Prim.Native.Nat.{_+_, _-_, _<_, _^_, _≤_, suc, zero, ℕ}
 use Rattle.words.proofs.Digits.{digit-above, digit-and, digit-lt, digit-not, digit-ones, digit-past, digit-top, double}
-use Rattle.words.proofs.Members.{below-lt, has-below, has-insert, has-intersection, has-lt, has-none, has-one, has-union}
+use Rattle.words.proofs.Members.{and-true, below-lt, has-below, has-insert, has-intersection, has-lt, has-none, has-one, has-union}
 use Rattle.words.proofs.Members.{insert-others, insert-top, intersection-lt, not-has, one-has, same-members, some-member, union-lt}
 use Rattle.words.specs.Sets.{below, built, complement, digit, empty, has, insert, intersection, union}
 
@@ -197,11 +197,7 @@ module _ (k w t : ℕ) where
   pub less-in : (u : ℕ) → u < k → t ≢ u → T (has w u) → T (has rest u)
   less-in u l z h =
       let e : has (complement k (insert 0 t)) u ≡ true = has-complement k (insert 0 t) u l ∙ ap not (insert-others 0 t u z ∙ has-none u) in
-      subst T (sym (has-intersection w (complement k (insert 0 t)) u ∙ (ap (λ b. has w u && b) e ∙ kept (has w u)))) h
-    where
-      kept : (c : Bool) → (c && true) ≡ c
-      kept true = refl
-      kept false = refl
+      subst T (sym (has-intersection w (complement k (insert 0 t)) u ∙ (ap (λ b. has w u && b) e ∙ and-true (has w u)))) h
 
   pub less-falls : T (has w t) → rest < w
   unfolding intersection

@@ -1,7 +1,7 @@
 -- What the definitions of specs/Sets say of membership: laws over ℕ, for every width.
 use mathlib.Core.Path.{_∙_, _≡_, ap, refl, subst, sym}
 use mathlib.Core.Logic.{_↔_, _≢_, _⊎_, inl, inr}
-use mathlib.Core.Bool.{_&&_, _||_, false, not, true}
+use mathlib.Core.Bool.{Bool, _&&_, _||_, false, not, true}
 use lib.Bits.{and-le-l, and-le-r, bitAnd, bitOr, or-add-and, or-lt, or-shifted-r}
 use lib.Dec.{T, eqb, eqb-refl, eqb→eq, not-T}
 use lib.Pow.{pow-lt, pow-pos}
@@ -12,6 +12,11 @@ use Prim.Native.Nat.{_%_, _+_, _/_, _<_, _^_, _≤_, max, min, suc, zero, ℕ}
 use Rattle.words.proofs.Digits.{digit-and, digit-lt, digit-none, digit-ones, digit-or, digit-past, digit-suc, digit-zero, double}
 use Rattle.words.proofs.Digits.{power-elsewhere, power-here, same-digits}
 use Rattle.words.specs.Sets.{below, digit, empty, has, insert, intersection, subset, union}
+
+-- a test and a certainty
+pub and-true : (b : Bool) → (b && true) ≡ b
+and-true true = refl
+and-true false = refl
 
 -- digits and tests of them
 pub has-one : (w t : ℕ) → T (has w t) → digit w t ≡ 1

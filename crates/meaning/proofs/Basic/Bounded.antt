@@ -10,6 +10,10 @@ use Rattle.meaning.specs.Reference.Tests.{allBelow, lowest}
 use Rattle.meaning.specs.Tests.{anyBelow}
 use Rattle.meaning.proofs.Basic.Booleans.{and-in, and-l, and-r, or-l, or-out, or-r}
 
+-- tests that agree on the numbers below n
+abbrev pub Agree : ℕ → (ℕ → Bool) → (ℕ → Bool) → Type 0
+Agree n f g = (x : ℕ) → x < n → f x ≡ g x
+
 -- i below n + 1 is n or below n
 pub last-or : (i n : ℕ) → i < suc n → (i ≡ n) ⊎ (i < n)
 last-or i n h = elim (ℕ-discrete i n) [ yes e ↦ inl e | no ne ↦ inr (omega arith) ]

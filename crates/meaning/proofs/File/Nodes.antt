@@ -7,7 +7,7 @@ use lib.Dec.{T, eqb, eqb-refl, eqb→eq, ltb, ltb→lt}
 use lib.ListN.{List·getD-eq-default, length}
 use native.Mathlib.Decide.{decLt}
 use native.Mathlib.Omega.{arith}
-use Prim.Native.Nat.{_<_, _≤_, suc, zero, ℕ}
+use Prim.Native.Nat.{_-_, _<_, _≤_, suc, zero, ℕ}
 use Rattle.meaning.specs.Formula.{Formula}
 use Rattle.meaning.specs.Nodes.{Beneath, Earlier, Node, Operand, formulaAt, formulaOf, nodeAt, of-eg, of-eu-l, of-eu-r, of-ex, of-neg}
 use Rattle.meaning.specs.Nodes.{of-or-l, of-or-r, through, unfolded}
@@ -107,6 +107,10 @@ module _ {A : Type 0} (nodes : List (Node A)) (earlier : Earlier nodes) where
   pub beneath-le : (j k : ℕ) → Beneath nodes j k → j ≤ k
   beneath-le j k Beneath.itself = omega arith
   beneath-le j k (through {i = i} o b) = let z = earlier k i o in let y = beneath-le j i b in omega arith
+
+  -- a node under the root is one of the nodes
+  pub beneath-listed : (k : ℕ) → 0 < length nodes → Beneath nodes k (length nodes - 1) → k < length nodes
+  beneath-listed k some b = omega (arith, beneath-le k (length nodes - 1) b)
 
   enough : (d e k : ℕ) → k < d → k < e → unfolded nodes d k ≡ unfolded nodes e k
   enough zero e k l m = absurd (omega arith)

@@ -1,8 +1,7 @@
 -- The grammar keeps what a reader promises: the contents that it finds in a file are Promised (specs/File/Promise). With it, how many bytes
 -- it reads at most.
-use mathlib.Core.Path.{_∙_, _≡_, ap, refl, subst, sym}
+use mathlib.Core.Path.{_∙_, _≡_, ap, subst, sym}
 use mathlib.Core.Logic.{inl, inr}
-use mathlib.Core.Bool.{Bool, false, true}
 use mathlib.Core.List.{List, map}
 use lib.Dec.{T, leb, leb→le, le→leb}
 use lib.ListN.{List·getD-map, getD, length, length-map, length-take, take}
@@ -14,6 +13,7 @@ use Rattle.meaning.specs.File.Parser.{demand, done, found, repeat}
 use Rattle.meaning.specs.File.Promise.{Promised, Within, noComponent}
 use Rattle.meaning.specs.Nodes.{Node}
 use Rattle.meaning.specs.Tests.{All}
+use Rattle.meaning.proofs.Basic.Booleans.{test-eq}
 use Rattle.meaning.proofs.Basic.Lists.{all-map}
 use Rattle.meaning.proofs.File.Components.{ComponentsRead, componentNumbers, reads-components}
 use Rattle.meaning.proofs.File.Driven.{has-driven}
@@ -21,13 +21,6 @@ use Rattle.meaning.proofs.File.Lists.{Sequence, along-all, along-places
 use Rattle.meaning.proofs.File.NodeLists.{NodesRead, reads-nodes}
 use Rattle.meaning.proofs.File.Numbers.{reads-between, reads-less, width}
 use Rattle.meaning.proofs.File.Parsers.{Reads, reads-bind, reads-demand, reads-found, reads-give, reads-list, reads-then, weaker}
-
--- tests that say the same
-same-tests : (a b : Bool) → (T a → T b) → (T b → T a) → a ≡ b
-same-tests true true f g = refl
-same-tests true false f g = absurd (f tt)
-same-tests false true f g = absurd (g tt)
-same-tests false false f g = refl
 
 -- a start as it was read
 pub record StartRead (sizes start : List ℕ) : Type 0 where
@@ -69,7 +62,7 @@ module _ (L : Limits) where
     where
       ends : (k : ℕ) (file : List ℕ) (at : ℕ) → at + 1 ≤ k → leb (length (take k file)) at ≡ leb (length file) at
       ends k file at h =
-          same-tests (leb (length (take k file)) at) (leb (length file) at)
+          test-eq (leb (length (take k file)) at) (leb (length file) at)
           (λ l. le→leb (length file) at (omega (arith, length-take k file, leb→le (length (take k file)) at l)))
           (λ l. le→leb (length (take k file)) at (omega (arith, length-take k file, leb→le (length file) at l)))
 

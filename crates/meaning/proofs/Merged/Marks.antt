@@ -8,7 +8,7 @@ use Rattle.meaning.specs.Classes.{classNumber, lowestOf}
 use Rattle.meaning.specs.Combination.{State, Step}
 use Rattle.meaning.specs.Formula.{Formula, atom, eg, eu, ex, neg, or, top}
 use Rattle.meaning.specs.Marks.{Fail, Must, Pass}
-use Rattle.meaning.specs.Merged.{MergedTruth, guard, lowestStates, mergedTables}
+use Rattle.meaning.specs.Merged.{MergedTruth, guard, mergedTables}
 use Rattle.meaning.specs.Table.{Table, assignments}
 use Rattle.meaning.specs.View.{View}
 use Rattle.meaning.proofs.File.Formulas.{of-eg, of-eu-l, of-eu-r, of-ex, of-or-l, of-or-r}
@@ -19,7 +19,7 @@ use Rattle.meaning.proofs.Meaning.Paths.{Reach, always-in, always-now, 
 use Rattle.meaning.proofs.Meaning.Steps.{moves, must-step, step-total}
 use Rattle.meaning.proofs.Meaning.Transfer.{Live}
 use Rattle.meaning.proofs.Merged.Merging.{Finer, Merging, class-ok, fail-at, finer-part, from-low, low-at, low-lt, lowestState}
-use Rattle.meaning.proofs.Merged.Merging.{merged-totals, pass-at, step-in, step-out, sym-at, total, truth-fail, truth-pass}
+use Rattle.meaning.proofs.Merged.Merging.{merged-totals, name, name-lt, pass-at, step-in, step-out, sym-at, total, truth-fail, truth-pass}
 use Rattle.meaning.proofs.Merged.Merging.{unfail-at}
 
 module _ {n : ℕ} {S : ℕ → Table} {A : Type 0} {val : A → (ℕ → ℕ) → Bool} {κ : ℕ → View A} {E : ℕ → ℕ → ℕ → Type 0} {cls : ℕ → ℕ → ℕ}
@@ -33,33 +33,26 @@ module _ {n : ℕ} {S : ℕ → Table} {A : Type 0} {val : A → (ℕ → ℕ) �
   abbrev FailIn : ℕ → Formula A → ℕ → Type 0
   FailIn i = Fail (S i) (κ i)
 
-  -- component k's lowest state in the merged state c
-  abbrev name : State n M → ℕ → ℕ
-  name c k = lowestStates n S cls (c .at) k
-
-  name-lt : (c : State n M) (k : ℕ) (l : k < n) → name c k < S k .states
-  name-lt c k l = low-lt m k l (c .at k) (c .ok k l)
-
   live : Live (Step n M)
   live = step-total n M (merged-totals m)
 
   -- a step of component k's class to a PASS class, on every assignment
-  must-merged : (k : ℕ) (l : k < n) (φ : Formula A) → Finer m φ → (c : State n M) → Must (S k) (PassIn k φ) (name c k)
+  must-merged : (k : ℕ) (l : k < n) (φ : Formula A) → Finer m φ → (c : State n M) → Must (S k) (PassIn k φ) (name m c k)
       → Must (M k) (λ j. PassIn k φ (lowestOf (S k) (cls k) j)) (c .at k)
   must-merged k l φ u c h a z =
       let (y, g, p) = h a z in
       let b = g .0 in
       let j = classNumber (cls k) y in (
         j,
-        step-in m k l (c .at k) (name c k) a y (c .ok k l) (name-lt c k l) (m .equivalence k l .refl (name c k) (name-lt c k l)) g,
+        step-in m k l (c .at k) (name m c k) a y (c .ok k l) (name-lt m c k l) (m .equivalence k l .refl (name m c k) (name-lt m c k l)) g,
         pass-at m φ k l b (low-lt m k l j (class-ok m k l y b)) (low-at m φ u k l y b) p,
       )
 
   -- PASS of EU: by what is built up at a member x of the class that stands in c
   merged-until : (k : ℕ) (l : k < n) {P Q : ℕ → Type 0} {P′ Q′ : State n M → Type 0}
-      → ((x : ℕ) (c : State n M) → x < S k .states → E k (name c k) x → P x → P′ c)
-      → ((x : ℕ) (c : State n M) → x < S k .states → E k (name c k) x → Q x → Q′ c)
-      → (x : ℕ) → x < S k .states → Derived (S k) P Q x → (c : State n M) → E k (name c k) x → Reach (Step n M) P′ Q′ c
+      → ((x : ℕ) (c : State n M) → x < S k .states → E k (name m c k) x → P x → P′ c)
+      → ((x : ℕ) (c : State n M) → x < S k .states → E k (name m c k) x → Q x → Q′ c)
+      → (x : ℕ) → x < S k .states → Derived (S k) P Q x → (c : State n M) → E k (name m c k) x → Reach (Step n M) P′ Q′ c
   merged-until k l p q x b (here h) c e = done (q x c b e h)
   merged-until k l p q x b (there h f g r) c e =
       let (d, s, (a, z, i)) =
@@ -76,24 +69,24 @@ module _ {n : ℕ} {S : ℕ → Table} {A : Type 0} {val : A → (ℕ → ℕ) �
 
   -- FAIL of EU: by the length of the way
   fail-reach : (φ ψ : Formula A) → Finer m (eu φ ψ) → (k : ℕ) (l : k < n) {P Q : State n M → Type 0}
-      → ((c : State n M) → FailIn k φ (name c k) → P c → ⊥) → ((c : State n M) → FailIn k ψ (name c k) → Q c → ⊥)
-      → (c : State n M) → FailIn k (eu φ ψ) (name c k) → Reach (Step n M) P Q c → ⊥
-  fail-reach φ ψ u k l p q c h (done r) = q c (stays-now (S k) (total m k l) (FailIn k φ) (FailIn k ψ) (name c k) (name-lt c k l) h) r
+      → ((c : State n M) → FailIn k φ (name m c k) → P c → ⊥) → ((c : State n M) → FailIn k ψ (name m c k) → Q c → ⊥)
+      → (c : State n M) → FailIn k (eu φ ψ) (name m c k) → Reach (Step n M) P Q c → ⊥
+  fail-reach φ ψ u k l p q c h (done r) = q c (stays-now (S k) (total m k l) (FailIn k φ) (FailIn k ψ) (name m c k) (name-lt m c k l) h) r
   fail-reach φ ψ u k l p q c h (more {u = d} a s r) =
       let (i, b, z) = moves n M (merged-totals m) k l c d s in
       let (x, o, e, (y, g, t)) = step-out m k l (c .at k) i (d .at k) (c .ok k l) z in
       let v : Finer m φ = finer-part m φ (eu φ ψ) of-eu-l u in
-      let hx = fail-at m (eu φ ψ) k l (name-lt c k l) o (u k l (name c k) x (name-lt c k l) o e) h in
-      let nx : FailIn k φ x → ⊥ = λ z. p c (unfail-at m φ k l (name-lt c k l) o (v k l (name c k) x (name-lt c k l) o e) z) a in
+      let hx = fail-at m (eu φ ψ) k l (name-lt m c k l) o (u k l (name m c k) x (name-lt m c k l) o e) h in
+      let nx : FailIn k φ x → ⊥ = λ z. p c (unfail-at m φ k l (name-lt m c k l) o (v k l (name m c k) x (name-lt m c k l) o e) z) a in
       let hy = stays-next (S k) (total m k l) (FailIn k φ) (FailIn k ψ) x y hx nx (i, b, g) in
-      fail-reach φ ψ u k l p q d (fail-at m (eu φ ψ) k l (g .0) (name-lt d k l) (u k l y (name d k) (g .0) (name-lt d k l) t) hy) r
+      fail-reach φ ψ u k l p q d (fail-at m (eu φ ψ) k l (g .0) (name-lt m d k l) (u k l y (name m d k) (g .0) (name-lt m d k l) t) hy) r
 
   -- where one component is PASS of EG none is FAIL
-  pass-guards : (φ : Formula A) (k : ℕ) → k < n → (d : State n M) → PassIn k (eg φ) (name d k) → guard n S cls κ val (eg φ) d
+  pass-guards : (φ : Formula A) (k : ℕ) → k < n → (d : State n M) → PassIn k (eg φ) (name m d k) → guard n S cls κ val (eg φ) d
   pass-guards φ k l d p i o f = truth-fail m (eg φ) (lowestState m d) i o f (truth-pass m (eg φ) (lowestState m d) k l p)
 
   mutual
-    pub merged-pass : (φ : Formula A) → Finer m φ → (c : State n M) (k : ℕ) → k < n → PassIn k φ (name c k) → MergedTruth n S cls κ val φ c
+    pub merged-pass : (φ : Formula A) → Finer m φ → (c : State n M) (k : ℕ) → k < n → PassIn k φ (name m c k) → MergedTruth n S cls κ val φ c
     merged-pass top u c k l h = tt
     merged-pass (atom a) u c k l h = m .fits .sound k l .passes a (lowestState m c) h
     merged-pass (neg φ) u c k l h = λ r. merged-fail φ u c k l h r
@@ -105,24 +98,24 @@ module _ {n : ℕ} {S : ℕ → Table} {A : Type 0} {val : A → (ℕ → ℕ) �
         next-in live c d tt s (merged-pass φ v d k l p)
     merged-pass (eg φ) u c k l h =
         always-in
-        (λ d. PassIn k (eg φ) (name d k))
-        (λ d p. (merged-pass φ (finer-part m φ (eg φ) of-eg u) d k l (largest-out (S k) (name d k) (name-lt d k l) p .0), pass-guards φ k l d p))
-        (λ d p. must-step n M (merged-totals m) k l d (must-merged k l (eg φ) u d (largest-out (S k) (name d k) (name-lt d k l) p .1))) c h
+        (λ d. PassIn k (eg φ) (name m d k))
+        (λ d p. (merged-pass φ (finer-part m φ (eg φ) of-eg u) d k l (largest-out (S k) (name m d k) (name-lt m d k l) p .0), pass-guards φ k l d p))
+        (λ d p. must-step n M (merged-totals m) k l d (must-merged k l (eg φ) u d (largest-out (S k) (name m d k) (name-lt m d k l) p .1))) c h
     merged-pass (eu φ ψ) u c k l h =
         let v : Finer m φ = finer-part m φ (eu φ ψ) of-eu-l u in
         let w : Finer m ψ = finer-part m ψ (eu φ ψ) of-eu-r u in
         let t = total m k l in
         until-in live (λ s d w r. tt) c tt
         (merged-until k l
-        (λ x d b e p. merged-pass φ v d k l (pass-at m φ k l b (name-lt d k l)
-        (sym-at m φ k l (name-lt d k l) b (v k l (name d k) x (name-lt d k l) b e)) p))
-        (λ x d b e p. merged-pass ψ w d k l (pass-at m ψ k l b (name-lt d k l)
-        (sym-at m ψ k l (name-lt d k l) b (w k l (name d k) x (name-lt d k l) b e)) p))
-        (name c k) (name-lt c k l)
-        (least-derived (S k) (pass-decides (S k) (κ k) t φ) (pass-decides (S k) (κ k) t ψ) (name c k) (name-lt c k l) h) c
-        (m .equivalence k l .refl (name c k) (name-lt c k l)))
+        (λ x d b e p. merged-pass φ v d k l (pass-at m φ k l b (name-lt m d k l)
+        (sym-at m φ k l (name-lt m d k l) b (v k l (name m d k) x (name-lt m d k l) b e)) p))
+        (λ x d b e p. merged-pass ψ w d k l (pass-at m ψ k l b (name-lt m d k l)
+        (sym-at m ψ k l (name-lt m d k l) b (w k l (name m d k) x (name-lt m d k l) b e)) p))
+        (name m c k) (name-lt m c k l)
+        (least-derived (S k) (pass-decides (S k) (κ k) t φ) (pass-decides (S k) (κ k) t ψ) (name m c k) (name-lt m c k l) h) c
+        (m .equivalence k l .refl (name m c k) (name-lt m c k l)))
 
-    pub merged-fail : (φ : Formula A) → Finer m φ → (c : State n M) (k : ℕ) → k < n → FailIn k φ (name c k) → MergedTruth n S cls κ val φ c → ⊥
+    pub merged-fail : (φ : Formula A) → Finer m φ → (c : State n M) (k : ℕ) → k < n → FailIn k φ (name m c k) → MergedTruth n S cls κ val φ c → ⊥
     merged-fail top u c k l h r = h
     merged-fail (atom a) u c k l h r = m .fits .sound k l .fails a (lowestState m c) h r
     merged-fail (neg φ) u c k l h r = r (merged-pass φ u c k l h)
@@ -133,8 +126,8 @@ module _ {n : ℕ} {S : ℕ → Table} {A : Type 0} {val : A → (ℕ → ℕ) �
         let (d, z, w) = next-out r in
         let (i, b, s) = moves n M (merged-totals m) k l c d z in
         let (x, o, e, (y, g, t)) = step-out m k l (c .at k) i (d .at k) (c .ok k l) s in
-        let hx : FailIn k (ex φ) x = fail-at m (ex φ) k l (name-lt c k l) o (u k l (name c k) x (name-lt c k l) o e) h in
-        merged-fail φ v d k l (fail-at m φ k l (g .0) (name-lt d k l) (v k l y (name d k) (g .0) (name-lt d k l) t) (hx y (i, b, g))) w
+        let hx : FailIn k (ex φ) x = fail-at m (ex φ) k l (name-lt m c k l) o (u k l (name m c k) x (name-lt m c k l) o e) h in
+        merged-fail φ v d k l (fail-at m φ k l (g .0) (name-lt m d k l) (v k l y (name m d k) (g .0) (name-lt m d k l) t) (hx y (i, b, g))) w
     merged-fail (eg φ) u c k l h r = always-now r .1 k l h
     merged-fail (eu φ ψ) u c k l h r =
         fail-reach φ ψ u k l (λ d f p. merged-fail φ (finer-part m φ (eu φ ψ) of-eu-l u) d k l f p)

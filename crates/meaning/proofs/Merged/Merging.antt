@@ -36,6 +36,13 @@ module _ {n : ℕ} {S : ℕ → Table} {A : Type 0} {val : A → (ℕ → ℕ) �
   abbrev pub lowestState : State n (mergedTables n S cls) → State n S
   lowestState c = record { at = lowestStates n S cls (c .at); ok = λ i l. lowest-lt (cls i) (S i) (c .at i) (c .ok i l) }
 
+  -- component k's lowest state in the merged state c
+  abbrev pub name : State n (mergedTables n S cls) → ℕ → ℕ
+  name c k = lowestStates n S cls (c .at) k
+
+  pub name-lt : (c : State n (mergedTables n S cls)) (k : ℕ) (l : k < n) → name c k < S k .states
+  name-lt c = lowestState c .ok
+
   -- the merging keeps φ: what it merges is related for φ
   abbrev pub Finer : Formula A → Type 0
   Finer φ = (i : ℕ) → i < n → InsidePairs (S i) (E i) (Rel (S i) (κ i) φ)

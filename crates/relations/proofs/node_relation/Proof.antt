@@ -2,8 +2,8 @@ use mathlib.Core.Path.{refl, sym, _∙_}
 use native.Mathlib.Omega.{arith}
 use Prim.Native.Nat.{zero-le}
 use borrow.Author.Needs.{needs}
-use Rattle.marks.proofs.NodeMarks.{past}
-use Rattle.relations.proofs.NodeRelations.{kind-unknown, steps-lent}
+use Rattle.instrument.proofs.Nodes.{past}
+use Rattle.relations.proofs.NodeRelations.{kind-unknown}
 use Rattle.relations.proofs.node_relation.Statement.{statement}
 use Rattle.relations.proofs.node_relation.Tie as tie
 
@@ -56,7 +56,7 @@ array-copy-out-ex-relation c =
 ex-relation-requires : tie.Need-ex-relation-requires
 ex-relation-requires c κs =
     let p = c .before .before .before .before .before .before .before .before .before .pre in
-    (steps-lent _ _ _ (p .0 .steps), p .1)
+    (p .0 .steps, p .1)
 
 mul-fixed-relation : tie.Need-mul-fixed-relation
 mul-fixed-relation c = search needs
@@ -67,7 +67,7 @@ array-copy-out-fixed-relation c = c .before .before .before .before .before .bef
 fixed-relation-requires : tie.Need-fixed-relation-requires
 fixed-relation-requires c κs =
     let p = c .before .before .before .before .before .before .before .before .pre in
-    (steps-lent _ _ _ (p .0 .steps), p .1)
+    (p .0 .steps, p .1)
 
 mul-rel-both-3 : tie.Need-mul-rel-both-3
 mul-rel-both-3 c = search needs
@@ -87,7 +87,7 @@ rel-both-requires-2 c κs = search needs
 fixed-relation-requires-2 : tie.Need-fixed-relation-requires-2
 fixed-relation-requires-2 c κs =
     let p = c .before .before .before .before .before .before .before .before .before .before .pre in
-    (steps-lent _ _ _ (p .0 .steps), p .1)
+    (p .0 .steps, p .1)
 
 rel-all-requires-2 : tie.Need-rel-all-requires-2
 rel-all-requires-2 c κs = search needs

@@ -2,7 +2,7 @@ use mathlib.Core.Path.{refl, _∙_}
 use native.Mathlib.Omega.{arith}
 use Prim.Native.Nat.{_-_}
 use Rattle.words.specs.Sets as sets
-use Rattle.classes.specs.Component as component
+use Rattle.meaning.specs.StepWords as component
 use Rattle.classes.specs.Loops.{Building}
 use Rattle.classes.proofs.Component.{within}
 use Rattle.classes.proofs.Loops.{building-none, building-more, building-end}
@@ -10,7 +10,7 @@ use Rattle.classes.proofs.matching.covered.Statement.{statement}
 use Rattle.classes.proofs.matching.covered.Tie as tie
 
 abbrev Inv-loop : tie.InvT-loop
-Inv-loop succ states inputs a live m result₀ y₀ result y = Building states (λ y. sets.subset (sets.intersection (component.successors inputs succ y a) live) m) result y
+Inv-loop succ states inputs a live m result₀ y₀ result y = Building states (λ y. sets.subset (sets.intersection (component.successorWord inputs succ y a) live) m) result y
 
 abbrev μ-loop : tie.MeasureT-loop
 μ-loop succ states inputs a live m result₀ y₀ result y = states - y
@@ -21,7 +21,7 @@ loop-holds c = building-none _ _
 successors-requires : tie.Need-successors-requires Inv-loop μ-loop
 successors-requires c κs =
     let p = c .before .before .before .pre in
-    (p .0 .few, within (p .0) _ _ (c .loop-test .taken) (p .1))
+    (p .0 .most-inputs, within (p .0) _ _ (c .loop-test .taken) (p .1))
 
 intersection-requires : tie.Need-intersection-requires Inv-loop μ-loop
 intersection-requires c κs = tt

@@ -15,32 +15,32 @@ abbrev μ-loop : tie.MeasureT-loop
 μ-loop succ states inputs r fail x live count result₀ a₀ result a = count - a
 
 cast-complement : tie.Need-cast-complement Inv-loop μ-loop
-cast-complement c = omega (arith, c .before .pre .0 .most)
+cast-complement c = omega (arith, c .before .pre .0 .most-states)
 
 complement-requires : tie.Need-complement-requires Inv-loop μ-loop
-complement-requires c κs = c .before .pre .0 .most
+complement-requires c κs = c .before .pre .0 .most-states
 
 shl-count : tie.Need-shl-count Inv-loop μ-loop
 shl-count c = omega arith
 
 cast-below : tie.Need-cast-below Inv-loop μ-loop
-cast-below c = omega (arith, c .before .before .pre .0 .most)
+cast-below c = omega (arith, c .before .before .pre .0 .most-states)
 
 below-requires : tie.Need-below-requires Inv-loop μ-loop
-below-requires c κs = c .before .before .pre .0 .most
+below-requires c κs = c .before .before .pre .0 .most-states
 
 loop-holds : tie.Need-loop-holds Inv-loop μ-loop
 loop-holds c =
     let s = c .before .before .before in
-    (power-word 64 _ (omega (arith, s .pre .0 .few)), rw (c .below .ensures) (matching-none _ _ _ _ _ _))
+    (power-word 64 _ (omega (arith, s .pre .0 .most-inputs)), rw (c .below .ensures) (matching-none _ _ _ _ _ _))
 
 successors-requires : tie.Need-successors-requires Inv-loop μ-loop
 successors-requires c κs =
     let p = c .before .before .before .before .before .pre in
-    (p .0 .few, within (p .0) _ _ (p .1) (omega arith))
+    (p .0 .most-inputs, within (p .0) _ _ (p .1) (omega arith))
 
 image-requires : tie.Need-image-requires Inv-loop μ-loop
-image-requires c κs = c .before .before .before .before .before .before .pre .0 .most
+image-requires c κs = c .before .before .before .before .before .before .pre .0 .most-states
 
 covered-requires : tie.Need-covered-requires Inv-loop μ-loop
 covered-requires c κs = (c .before .before .before .before .before .before .before .pre .0, omega arith)

@@ -21,10 +21,10 @@ matched-row-requires : tie.Need-matched-row-requires Inv-loop μ-loop
 matched-row-requires c κs = (c .before .before .before .pre, c .loop-test .taken)
 
 mul-result : tie.Need-mul-result Inv-loop μ-loop
-mul-result c = omega (arith, c .before .before .before .before .pre .most)
+mul-result c = omega (arith, c .before .before .before .before .pre .most-states)
 
 array-write-result : tie.Need-array-write-result Inv-loop μ-loop
-array-write-result c = omega (arith, c .before .before .before .before .pre .most)
+array-write-result c = omega (arith, c .before .before .before .before .pre .most-states)
 
 add-x : tie.Need-add-x Inv-loop μ-loop
 add-x c = omega arith
@@ -35,7 +35,7 @@ loop-less c = omega arith
 loop-again : tie.Need-loop-again Inv-loop μ-loop
 loop-again c =
     let l = c .before .before in
-    filling-more (l .loop .inv) (l .before .before .pre .most) (c .before .loop-test .taken) (c .matched-row .ensures)
+    filling-more (l .loop .inv) (l .before .before .pre .most-states) (c .before .loop-test .taken) (c .matched-row .ensures)
 
 returns : tie.Need-returns Inv-loop μ-loop
 unfolding matching.matchedRows rows

@@ -22,7 +22,7 @@ returns : tie.Need-returns
 returns c =
     let f = c .before .before in
     let b = f .before .before in
-    ruled-ex _ _ _ _ (b .before .before .before .pre .0 .most) _ _ _ _ (b .matched-rows .ensures) (f .before .converse .ensures) (f .matched-rows2 .ensures)
+    ruled-ex _ _ _ _ (b .before .before .before .pre .0 .most-states) _ _ _ _ (b .matched-rows .ensures) (f .before .converse .ensures) (f .matched-rows2 .ensures)
     (c .before .converse2 .ensures) (c .ruled .ensures)
 
 pub rel-ex-spec : {M : Type 1} → statement M

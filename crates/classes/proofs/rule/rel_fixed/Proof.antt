@@ -14,7 +14,7 @@ abbrev μ-loop : tie.MeasureT-loop
 μ-loop succ states inputs compared pass fail r₀ r = sum r
 
 loop-holds : tie.Need-loop-holds Inv-loop μ-loop
-loop-holds c = (search needs, refining-start _ _ _ _ (c .before .before .pre .0 .most) _ _ _)
+loop-holds c = (search needs, refining-start _ _ _ _ (c .before .before .pre .0 .most-states) _ _ _)
 
 rel-ex-requires : tie.Need-rel-ex-requires Inv-loop μ-loop
 rel-ex-requires c κs = c .before .before .before .pre
@@ -26,19 +26,19 @@ returns : tie.Need-returns Inv-loop μ-loop
 returns c =
     let l = c .before .before .before in
     let e = c .before .same .ensures .equal (c .if1 .taken) in
-    e ∙ refining-end _ _ _ _ (l .before .before .before .pre .0 .most) _ _ _ _ (l .loop .inv .1) (sym (c .before .before .rel-ex .ensures) ∙ e)
+    e ∙ refining-end _ _ _ _ (l .before .before .before .pre .0 .most-states) _ _ _ _ (l .loop .inv .1) (sym (c .before .before .rel-ex .ensures) ∙ e)
 
 loop-less : tie.Need-loop-less Inv-loop μ-loop
 loop-less c =
     let l = c .before .before .before in
     let e = c .before .before .rel-ex .ensures in
-    rw e (refining-falls _ _ _ _ (l .before .before .before .pre .0 .most) _ _ _ (l .loop .inv .0)
+    rw e (refining-falls _ _ _ _ (l .before .before .before .pre .0 .most-states) _ _ _ (l .loop .inv .0)
     (λ p. c .before .same .ensures .other (c .if1 .left) (e ∙ p)))
 
 loop-again : tie.Need-loop-again Inv-loop μ-loop
 loop-again c =
     let l = c .before .before .before in
-    (search needs, rw (c .before .before .rel-ex .ensures) (refining-more _ _ _ _ (l .before .before .before .pre .0 .most) _ _ _ _ (l .loop .inv .1)))
+    (search needs, rw (c .before .before .rel-ex .ensures) (refining-more _ _ _ _ (l .before .before .before .pre .0 .most-states) _ _ _ _ (l .loop .inv .1)))
 
 pub rel-fixed-spec : {M : Type 1} → statement M
 rel-fixed-spec =

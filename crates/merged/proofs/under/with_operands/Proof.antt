@@ -3,7 +3,7 @@ use native.Mathlib.Omega.{arith}
 use Prim.Native.Nat.{zero-le}
 use Rattle.words.specs.Sets.{insert}
 use borrow.Author.Needs.{needs}
-use Rattle.marks.proofs.NodeMarks.{past}
+use Rattle.instrument.proofs.Nodes.{past}
 use Rattle.merged.proofs.Reaching.{unknown-more}
 use Rattle.merged.proofs.under.with_operands.Statement.{statement}
 use Rattle.merged.proofs.under.with_operands.Tie as tie
