@@ -1,13 +1,10 @@
 -- The lent steps: where a successor word stands, and the table that they are.
-use mathlib.Core.Path.{_≡_}
 use mathlib.Core.List.{List}
 use lib.ListN.{length}
 use native.Mathlib.Nat.{mul-suc, mul-le-mul-left}
 use native.Mathlib.Omega.{arith}
 use Prim.Native.Nat.{ℕ, suc, _+_, _*_, _^_, _≤_, _<_}
-use Rattle.words.specs.Sets.{has}
-use Rattle.meaning.proofs.Meaning.Full.{length-upTo}
-use Rattle.meaning.specs.StepWords.{stepTable, successorWord, Steps}
+use Rattle.meaning.specs.StepWords.{Steps}
 
 -- the successor word of a state on an assignment lies within the words
 pub within : {states inputs : ℕ} {succ : List ℕ} → Steps states inputs succ → (x a : ℕ) → x < states → a < 2 ^ inputs
@@ -15,7 +12,3 @@ pub within : {states inputs : ℕ} {succ : List ℕ} → Steps states inputs suc
 within {states} {inputs} {succ} h x a l k =
     let m : 2 ^ inputs * suc x ≤ 2 ^ inputs * states = mul-le-mul-left (2 ^ inputs) l in
     omega (arith, h .room, mul-suc (2 ^ inputs) x)
-
--- a step of the table is a member of the successor word
-pub next-is : (states inputs : ℕ) (succ : List ℕ) (x a y : ℕ) → stepTable states inputs succ .next x a y ≡ has (successorWord inputs succ x a) y
-next-is states inputs succ x a y = rw (length-upTo inputs)

@@ -8,7 +8,7 @@ use Prim.Native.Nat.{ℕ, _≤_, _<_}
 use Rattle.words.specs.Sets.{has, built}
 use Rattle.words.proofs.Built.{has-built}
 use Rattle.meaning.specs.Table.{Table, fromWords}
-use Rattle.meaning.specs.Formula.{Formula, top, neg, or, ex, eg, eu}
+use Rattle.meaning.specs.Formula.{Formula, top, or, ex, eg, eu}
 use Rattle.meaning.specs.View.{View}
 use Rattle.meaning.specs.Reference.Marks.{passB, failB}
 use Rattle.meaning.specs.Reference.Relation.{largestB, relB, ruleB}
@@ -42,9 +42,6 @@ module _
     pub top-rows : relatedAll n ≡ relRows top
     unfolding relatedAll
     top-rows = refl
-
-    pub neg-rows : (φ : Formula A) → relRows φ ≡ relRows (neg φ)
-    neg-rows φ = refl
 
     both-agree : (a b : ℕ → ℕ → Bool) → AgreePairs n (λ x y. rel (rows n a) x y && rel (rows n b) x y) (λ x y. a x y && b x y)
     both-agree a b x y l k = ap₂ (λ a b. a && b) (rel-rows n a x y m l k) (rel-rows n b x y m l k)

@@ -1,16 +1,12 @@
 -- Rows of a test of pairs: their bits, and when two are equal.
-use mathlib.Core.Path.{_≡_, subst, ap, _∙_}
-use mathlib.Core.Bool.{Bool, false}
-use lib.Dec.{T}
+use mathlib.Core.Path.{_≡_, ap, _∙_}
+use mathlib.Core.Bool.{Bool}
 use lib.ListN.{length, getD}
-use native.Mathlib.Decide.{decLt}
-use native.Mathlib.Omega.{arith}
 use Prim.Native.Nat.{ℕ, _≤_, _<_}
 use Rattle.words.specs.Sets.{has, built}
-use Rattle.words.proofs.Members.{has-none}
-use Rattle.words.proofs.Built.{has-built, has-built-lt, built-same}
+use Rattle.words.proofs.Built.{has-built, built-same}
 use Rattle.classes.specs.Rows.{rel, rows}
-use Rattle.classes.proofs.Padded.{length-padded, padded-at, padded-past, padded-same}
+use Rattle.classes.proofs.Padded.{length-padded, padded-at, padded-same}
 
 pub length-rows : (n : ℕ) (b : ℕ → ℕ → Bool) → length (rows n b) ≡ 32
 unfolding rows
@@ -27,16 +23,6 @@ rel-rows n b x y m l k = ap (λ w. has w y) (row-at n b x m l) ∙ has-built n (
 pub record Inside (n x y : ℕ) : Type 0 where
   pub first : x < n
   pub second : y < n
-
-pub rel-inside : (n : ℕ) (b : ℕ → ℕ → Bool) (x y : ℕ) → n ≤ 32 → T (rel (rows n b) x y) → Inside n x y
-unfolding rows
-rel-inside n b x y m h =
-    elim (decLt x n) [
-      | yes l ↦ record { first = l; second = has-built-lt n (b x) y (subst (λ w. T (has w y)) (row-at n b x m l) h) }
-      | no l ↦
-          let e : has (getD (rows n b) x 0) y ≡ false = ap (λ w. has w y) (padded-past 32 n (λ x. built n (b x)) x (omega arith)) ∙ has-none y in
-          absurd (subst T e h)
-    ]
 
 -- tests that agree below n have the same rows
 pub rows-same : (n : ℕ) (b c : ℕ → ℕ → Bool) → n ≤ 32 → ((x y : ℕ) → x < n → y < n → b x y ≡ c x y) → rows n b ≡ rows n c

@@ -1,12 +1,12 @@
 -- The rules, applied to the marks of the operands, give the marks of the formula (meaning's passB and failB).
-use mathlib.Core.Path.{_≡_, refl, sym}
+use mathlib.Core.Path.{_≡_, sym}
 use mathlib.Core.Bool.{Bool}
 use lib.Dec.{T}
 use Prim.Native.Nat.{ℕ}
 use Rattle.words.specs.Sets.{has, built}
 use Rattle.words.proofs.Built.{built-lt, built-below, built-empty, built-union, built-intersection}
 use Rattle.meaning.specs.Table.{Table}
-use Rattle.meaning.specs.Formula.{Formula, top, neg, or, ex, eg, eu}
+use Rattle.meaning.specs.Formula.{Formula, top, or, ex, eg, eu}
 use Rattle.meaning.specs.View.{View}
 use Rattle.meaning.specs.Reference.Marks.{passB, failB}
 use Rattle.meaning.proofs.Basic.Decides.{Decides, test-decides, not-decides}
@@ -14,7 +14,7 @@ use Rattle.meaning.proofs.Meaning.TableSteps.{must-decides, can-decides}
 use Rattle.meaning.proofs.Meaning.TablePaths.{keeps-decides, reach-decides}
 use Rattle.meaning.proofs.Marks.Sets.{largest-decides, least-decides}
 use Rattle.marks.specs.Formulas.{formulaMark}
-use Rattle.marks.specs.Rules.{InRange, trueMark, notMark, orMark, exMark, egMark, euMark, exPass, exFail, egPass, egFail, euPass, euFail}
+use Rattle.marks.specs.Rules.{InRange, trueMark, orMark, exMark, egMark, euMark, exPass, exFail, egPass, egFail, euPass, euFail}
 use Rattle.marks.proofs.Rules.{mark-is}
 use Rattle.marks.proofs.Tests.{same-word, built-decides}
 
@@ -27,9 +27,6 @@ module _ {A : Type 0} (t : Table) (κ : View A) where
 
   pub formula-true : trueMark N ≡ formulaMark t κ top
   formula-true = mark-is _ _ _ (sym (built-below N)) (sym (built-empty N))
-
-  pub formula-not : (φ : Formula A) → notMark (formulaMark t κ φ) ≡ formulaMark t κ (neg φ)
-  formula-not φ = refl
 
   pub formula-or : (φ ψ : Formula A) → orMark (formulaMark t κ φ) (formulaMark t κ ψ) ≡ formulaMark t κ (or φ ψ)
   formula-or φ ψ = mark-is _ _ _ (built-union N (passB t κ φ) (passB t κ ψ)) (built-intersection N (failB t κ φ) (failB t κ ψ))

@@ -16,7 +16,7 @@ use Rattle.meaning.specs.Nodes.{Node, top, atom, neg, or, ex, eg, eu, Earlier, 
 use Rattle.meaning.specs.Combination.{high}
 use Rattle.meaning.specs.View.{View, wholeWords}
 use Rattle.meaning.specs.Classes.{classCount, lowestOf}
-use Rattle.meaning.specs.Merged.{mergedTables, mergedSizes, mergedCount, lowestStates}
+use Rattle.meaning.specs.Merged.{mergedTables, mergedSizes, mergedCount}
 use Rattle.meaning.specs.Reference.Tests.{allBelow}
 use Rattle.meaning.specs.Reference.Marks.{failB}
 use Rattle.meaning.specs.Reference.Truth.{part}
@@ -28,7 +28,7 @@ use Rattle.truth.specs.Nodes.{combinedB, combinedWord}
 use Rattle.truth.proofs.Nodes.{combined-guarded}
 use Rattle.merging.proofs.Tables.{Agreeing}
 use Rattle.merged.specs.Words.{failClasses}
-use Rattle.merged.proofs.Agreeing.{combined-same, high-same}
+use Rattle.merged.proofs.Agreeing.{combined-same}
 
 -- none passes a test if all fail it
 none-all : (n : ℕ) (f : ℕ → Bool) → allBelow n (λ i. not (f i)) ≡ not (anyBelow n f)
@@ -87,9 +87,6 @@ module _ (n : ℕ) (S : ℕ → Table) (cls : ℕ → ℕ → ℕ) (some : (i : 
           ∙ has-fail-classes (S i) (cls i) nodes k (part r i x) (part-lt r i (some i h) x))))
 
       module _ (earlier : Earlier nodes) (W : ℕ) (U : ℕ → Table) (agreeing : (i : ℕ) → i < n → Agreeing (U i) (M i)) where
-        -- a signal's level is that of the lowest states
-        pub high-lowest : (w x : ℕ) → high n U w (λ i. part (λ i. U i .states) i x) ≡ high n S w (lowestStates n S cls (λ i. part r i x))
-        high-lowest w x = high-same n U M agreeing some w x
 
         pub combined-merged : (k x : ℕ) → x < mergedCount n S cls
             → combinedB n U W barred nodes k x ≡ mergedB n S cls κ (high n S) W (formulaAt nodes k) x

@@ -1,8 +1,7 @@
--- Truth of all nodes on tables that agree with the merged ones; the guard; the merged words and what they mean
+-- Truth of all nodes on tables that agree with the merged ones; the guard; the merged words
 pub mod Agreeing
 pub mod Guarded
 pub mod Words
-pub mod Meaning
 -- The way down from the root
 pub mod Reaching
 pub mod Root

@@ -36,12 +36,6 @@ module _ (I : Instrument) (accepted : Accepted I) (i : ℕ) (l : i < components 
   pub class-lt : (x : ℕ) → x < table I i .states → classesAt I i x < table I i .states
   class-lt = named.name-lt (table I i) R equivalence (classesAt I i) names
 
-  pub class-class : (x : ℕ) → x < table I i .states → classesAt I i (classesAt I i x) ≡ classesAt I i x
-  class-class = named.name-name (table I i) R equivalence (classesAt I i) names
-
-  pub class-le : (x : ℕ) → x < table I i .states → classesAt I i x ≤ x
-  class-le x h = names .lowest x x h h (equivalence .refl x h)
-
 -- what stands at a component's and a state's place
 pub row-at : (I : Instrument) → components I ≤ 4 → (i : ℕ) → i < components I → getD (classesOf I) i [] ≡ componentClasses I i
 unfolding classesOf
@@ -81,9 +75,6 @@ module _ (t : stored.Instrument) (k : Contents) (d : Describes t k) where
 
   pub few-states : (i : ℕ) → i < components I → table I i .states ≤ 32
   few-states i l = rw (table-states t k d i) (states-bounds t k d i (omega (arith, table-count t k d)) .1)
-
-  pub described-row : (i : ℕ) → i < components I → getD (classesOf I) i [] ≡ componentClasses I i
-  described-row = row-at I few-components
 
   pub described-name : (i x : ℕ) → i < components I → x < table I i .states → getD (getD (classesOf I) i []) x 0 ≡ classesAt I i x
   described-name i x l h = name-at I few-components i l (few-states i l) x h

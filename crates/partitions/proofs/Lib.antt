@@ -1,6 +1,5 @@
--- what callers need of the names and the counts
+-- what callers need of the names
 pub mod Classes
-pub mod Counts
 -- the names of one component from the relation at the root; of all components
 pub mod Component
 pub mod Naming

@@ -1,24 +1,22 @@
--- The classes of every component's states at the root, and how many there are (document 01, Classes).
+-- The classes of every component's states at the root (document 01, Classes).
 use mathlib.Core.Path.{_≡_}
-use mathlib.Core.List.{List, []}
+use mathlib.Core.List.{List}
 use lib.ListN.{length, getD, replicate}
 use lib.Seq.{sets}
 use Prim.Native.Nat.{ℕ, zero, suc, _+_, _-_}
 use Rattle.meaning.specs.Table.{Table}
 use Rattle.meaning.specs.View.{View, wholeWords}
 use Rattle.meaning.specs.Nodes.{Node, formulaAt}
-use Rattle.meaning.specs.Classes as classes
 use Rattle.meaning.specs.Instrument as meaning
 use Rattle.meaning.specs.Instrument.{components, table}
 use Rattle.meaning.specs.File.Grammar.{Contents, instrumentOf, limits}
 use Rattle.meaning.specs.Reference.Relation.{rootClass}
-use Rattle.meaning.specs.Reference.Answers.{listBelow, classesAt}
+use Rattle.meaning.specs.Reference.Answers.{listBelow}
 use Rattle.instrument.specs.declared.Instrument.{Instrument}
 use Rattle.instrument.specs.Described.{Describes}
 use Rattle.marks.specs.declared.Mark.{Mark}
 use Rattle.marks.specs.NodeMarks.{marksOf}
 use Rattle.classes.specs.Rows.{padded}
-use Rattle.classes.specs.Names.{classCount}
 
 -- "Classes are taken at the root": 32 names, that of state x at x, and 0 past the states. They depend on the component's own table, what is
 -- compared of its outputs and the nodes, and on nothing else.
@@ -36,13 +34,6 @@ noNames = replicate (limits .states) 0
 -- of all components, 0 past the last one
 unfoldable pub classesOf : meaning.Instrument → List (List ℕ)
 classesOf I = sets (replicate (limits .components) noNames) 0 (listBelow (components I) (componentClasses I))
-
--- how many classes each component has, 1 past the last one: by the names in rows, and by document 01
-unfoldable pub countsIn : ℕ → List ℕ → List (List ℕ) → List ℕ
-countsIn n states names = sets (replicate (limits .components) 1) 0 (listBelow n (λ i. classCount (getD names i []) (getD states i 0)))
-
-unfoldable pub countsOf : meaning.Instrument → List ℕ
-countsOf I = sets (replicate (limits .components) 1) 0 (listBelow (components I) (λ i. classes.classCount (table I i) (classesAt I i)))
 
 -- f 0 + f 1 + .. + f (n - 1); the number of the components' states together, a name for each
 abbrev pub sumBelow : ℕ → (ℕ → ℕ) → ℕ

@@ -8,7 +8,6 @@ use Rattle.meaning.specs.Reference.Answers.{listBelow, joinBelow}
 use Rattle.instrument.specs.declared.Instrument.{Instrument}
 use Rattle.marks.specs.declared.Mark.{Mark}
 use Rattle.marks.specs.Written.{Written}
-use Rattle.classes.specs.Names.{classCount}
 use Rattle.partitions.specs.Classes.{componentClasses, noNames, MarkedInstrument, sumBelow}
 
 -- the first so many names of a row
@@ -25,11 +24,6 @@ pub record Naming (t : Instrument) (marks : List (List Mark)) (i : ℕ) (names :
 pub record Writing (n : ℕ) (states : List ℕ) (names : List (List ℕ)) (out₀ : List ℕ) (i place : ℕ) (out : List ℕ) : Type 0 where
   pub written : Written out₀ 0 n (λ i. namesIn (getD names i []) (getD states i 0)) i out
   pub next : place ≡ length (joinBelow i (λ i. namesIn (getD names i []) (getD states i 0)))
-
--- the classes of the first i of n components are counted
-abbrev pub Counting : ℕ → List ℕ → List (List ℕ) → ℕ → List ℕ → Type 0
-Counting n states names i counts =
-    Written (replicate (limits .components) 1) 0 n (λ i. classCount (getD names i []) (getD states i 0) ∷ []) i counts
 
 -- the states of the first i components are summed
 pub record Summing (t : Instrument) (i sum : ℕ) : Type 0 where

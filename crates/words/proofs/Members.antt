@@ -4,7 +4,7 @@ use mathlib.Core.Logic.{_↔_, _≢_, _⊎_, inl, inr}
 use mathlib.Core.Bool.{Bool, _&&_, _||_, false, not, true}
 use lib.Bits.{and-le-l, and-le-r, bitAnd, bitOr, or-add-and, or-lt, or-shifted-r}
 use lib.Dec.{T, eqb, eqb-refl, eqb→eq, not-T}
-use lib.Pow.{pow-lt, pow-pos}
+use lib.Pow.{pow-pos}
 use native.Mathlib.Decide.{decLt, ℕ-discrete}
 use native.Mathlib.Nat.{one-mul}
 use native.Mathlib.Omega.{arith}
@@ -136,10 +136,6 @@ power-iff t u =
       | no z ↦ (λ h. absurd (subst T (not-has (2 ^ t) u (power-elsewhere t u z)) h), λ e. absurd (z e))
     ]
 
-pub insert-lt : (k w t : ℕ) → w < 2 ^ k → t < k → insert w t < 2 ^ k
-unfolding insert
-insert-lt k w t p l = or-lt k w (2 ^ t) p (pow-lt l)
-
 -- a number above all members
 pub insert-top : (k w : ℕ) → w < 2 ^ k → insert w k ≡ w + 2 ^ k
 unfolding insert
@@ -193,10 +189,6 @@ subset-le a b h = omega (arith, eqb→eq (bitAnd a b) a h, and-le-r a b)
 pub empty-out : (w : ℕ) → T (empty w) → (t : ℕ) → has w t ≡ false
 unfolding empty
 empty-out w h t = ap (λ w. has w t) (eqb→eq w 0 h) ∙ has-none t
-
-pub empty-in : (k w : ℕ) → w < 2 ^ k → ((t : ℕ) → t < k → has w t ≡ false) → T (empty w)
-unfolding empty
-empty-in k w p h = subst (λ w. T (eqb w 0)) (sym (same-members k w 0 p (pow-pos k) (λ t l. h t l ∙ sym (has-none t)))) tt
 
 -- a word below 2 ^ k that is not 0 has a member
 pub some-member : (k w : ℕ) → w < 2 ^ k → w ≢ 0 → (t : ℕ) × (t < k) × T (has w t)

@@ -42,12 +42,6 @@ with-all-out set (v ∷ vs) w h =
       | inr l ↦ inr (listed-others v vs w l)
     ]
 
-pub has-with-all : (set : ℕ) (vs : List ℕ) (w : ℕ) → T (has (withAll set vs) w) ↔ (T (has set w) ⊎ T (listed vs w))
-has-with-all set vs w = (
-  with-all-out set vs w,
-  λ h. elim h [ inl a ↦ with-all-set set vs w a | inr l ↦ with-all-listed set vs w l ],
-)
-
 -- so with what components drive: the signals of the set, and the outputs of each
 module _ (none : Component) where
   driven-set : (set : ℕ) (cs : List Component) (w : ℕ) → T (has set w) → T (has (drivenBy set cs) w)

@@ -72,17 +72,6 @@ module _
           until : (s : X) → Reach StepX (HX φ) (HX ψ) s → HX (eu φ ψ) s
           until s h = until-in liveX (λ s d w z. tt) s tt h
 
--- a symmetric relation of one system that matches one way matches the other
-pub flip : {A X : Type 0} (Step : X → X → Type 0) (val : A → X → Type 0) (G : Formula A → X → Type 0) (R : Formula A → X → X → Type 0)
-    → ((φ : Formula A) (s u : X) → R φ s u → R φ u s) → Matches Step val G Step val G R → Matches Step val G Step val G (λ φ u s. R φ s u)
-flip Step val G R swap m =
-    record {
-      value = λ a u s r. m .value a u s (swap (atom a) s u r);
-      guard = λ φ u s r. m .guard φ u s (swap (eg φ) s u r);
-      part = λ φ ψ p u s r. swap φ u s (m .part φ ψ p u s (swap ψ s u r));
-      step = λ φ χ f u d s r h z k. ⊎-map (λ a. a) (λ p. (p .0, p .1, swap χ d (p .0) (p .2))) (m .step φ χ f u d s (swap φ s u r) h z k);
-    }
-
 module _
     {A X Y : Type 0}
     (StepX : X → X → Type 0)
