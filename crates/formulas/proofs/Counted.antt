@@ -1,12 +1,12 @@
 -- One node or start more, and a count with so many of them.
 use mathlib.Core.Path.{_≡_, refl, sym, ap, _∙_}
 use mathlib.Core.List.{List, map}
-use lib.ListN.{length, length-map}
+use lib.ListN.{length-map}
 use native.Mathlib.Omega.{arith}
 use Prim.Native.Nat.{ℕ, _+_, _≤_}
 use Rattle.meaning.specs.Nodes as formula
 use Rattle.meaning.specs.File.Parser.{Got, found, fault, on, listOf}
-use Rattle.meaning.specs.File.Grammar.{Component, Contents, limits, between, node, startState, start}
+use Rattle.meaning.specs.File.Grammar.{Component, Contents, limits, between, node, startState}
 use Rattle.cursor.specs.Answers.{number}
 use Rattle.cursor.specs.declared.Cursor.{Cursor}
 use Rattle.cursor.specs.declared.Refusal.{Refusal}

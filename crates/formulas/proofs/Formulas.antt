@@ -1,10 +1,10 @@
 -- A node by its kind, and a signal that it names, in the steps of the code (specs/File/Grammar of crate meaning, `named`, `operands`, `node`).
-use mathlib.Core.Path.{_≡_, refl, sym, ap}
+use mathlib.Core.Path.{_≡_, refl, ap}
 use mathlib.Core.Bool.{true, false}
 use mathlib.Core.List.{List}
 use native.Mathlib.Omega.{arith}
 use borrow.Author.Tests.{lt-ltb, le-ltb}
-use Prim.Native.Nat.{ℕ, zero, suc, _-_, _≤_, _<_}
+use Prim.Native.Nat.{ℕ, suc, _-_, _≤_, _<_}
 use Rattle.words.specs.Sets.{has}
 use Rattle.meaning.specs.Nodes as formula
 use Rattle.meaning.specs.File.Parser.{Got, found, fault, on}

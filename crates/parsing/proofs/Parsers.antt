@@ -1,5 +1,5 @@
 -- What is read after what, in whichever grouping; and what was found before it was changed.
-use mathlib.Core.Path.{_≡_, refl, sym, ap, _∙_}
+use mathlib.Core.Path.{_≡_, refl, ap}
 use native.Mathlib.Omega.{arith}
 use Prim.Native.Nat.{ℕ}
 use Rattle.meaning.specs.File.Parser.{Got, found, fault, on}

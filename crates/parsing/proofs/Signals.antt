@@ -7,7 +7,7 @@ use native.Mathlib.Omega.{arith}
 use borrow.Author.Tests.{lt-ltb, le-ltb, ltb-true, le-leb, lt-leb}
 use Prim.Native.Nat.{ℕ, _≤_, _<_}
 use Rattle.words.specs.Sets.{has}
-use Rattle.meaning.specs.File.Parser.{Got, found, fault, Done, demand, on}
+use Rattle.meaning.specs.File.Parser.{Got, found, fault, demand, on}
 use Rattle.meaning.specs.File.Grammar.{number, signal, limits}
 
 module _ (W taken low : ℕ) (file : List ℕ) (at : ℕ) where

@@ -5,7 +5,7 @@ use native.Mathlib.Omega.{arith}
 use native.Mathlib.Numerals.{add-one}
 use Prim.Native.Nat.{ℕ, zero, suc, _+_, _≤_}
 use Rattle.meaning.specs.File.Parser.{Got, found, fault, on}
-use Rattle.meaning.specs.File.Grammar.{Contents, limits}
+use Rattle.meaning.specs.File.Grammar.{Contents}
 use Rattle.meaning.proofs.File.Lists.{on-assoc}
 use Rattle.cursor.specs.Answers.{number}
 use Rattle.cursor.specs.declared.Cursor.{Cursor}

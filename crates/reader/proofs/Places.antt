@@ -1,6 +1,6 @@
 -- Where a component stands, in the steps of the code.
 use mathlib.Core.Path.{_≡_, refl, sym, ap, _∙_}
-use mathlib.Core.List.{List, []}
+use mathlib.Core.List.{List}
 use lib.ListN.{length}
 use lib.Dec.{ltb}
 use borrow.Author.Tests.{le-ltb, lt-ltb}
@@ -17,10 +17,10 @@ use Rattle.instrument.specs.Layout.{layout}
 use Rattle.parsing.specs.declared.Outcome.{Outcome}
 use Rattle.parsing.specs.declared.Outcome.the-variants.{Accepted, Refused}
 use Rattle.parsing.specs.declared.step.Step.{Step}
-use Rattle.parsing.specs.Stages.{mapped, Stage, times}
+use Rattle.parsing.specs.Stages.{mapped, times}
 use Rattle.parsing.specs.Steps.{reachedBy, Laid}
 use Rattle.parsing.proofs.Parsers.{on-each}
-use Rattle.tables.specs.Stages.{addComponent, opened, readFirst, withComponent}
+use Rattle.tables.specs.Stages.{addComponent, opened, readFirst}
 use Rattle.tables.proofs.Grammar.{counts-then, times-components}
 use Rattle.reader.specs.declared.Located.{Located}
 use Rattle.reader.specs.Outcomes.{outcomeNumber, faultNumber}
