@@ -1,4 +1,4 @@
--- One node or start more, and a count with so many of them.
+-- All nodes, one start more, and a count with so many of them.
 use mathlib.Core.Path.{_≡_, refl, sym, ap, _∙_}
 use mathlib.Core.List.{List, map}
 use lib.ListN.{length-map}
@@ -6,7 +6,7 @@ use native.Mathlib.Omega.{arith}
 use Prim.Native.Nat.{ℕ, _+_, _≤_}
 use Rattle.meaning.specs.Nodes as formula
 use Rattle.meaning.specs.File.Parser.{Got, found, fault, on, listOf}
-use Rattle.meaning.specs.File.Grammar.{Component, Contents, limits, between, node, startState}
+use Rattle.meaning.specs.File.Grammar.{Component, Contents, limits, between, nodes, startState}
 use Rattle.cursor.specs.Answers.{number}
 use Rattle.cursor.specs.declared.Cursor.{Cursor}
 use Rattle.cursor.specs.declared.Refusal.{Refusal}
@@ -16,14 +16,18 @@ use Rattle.parsing.specs.declared.step.Step.{Step}
 use Rattle.parsing.specs.Stages.{mapped, Stage, times}
 use Rattle.parsing.specs.Steps.{refusedStep, acceptedStep, Goes, Adds}
 use Rattle.parsing.proofs.Steps.{laid-refused, laid-accepted}
-use Rattle.formulas.specs.Stages.{withNode, withStart, addNode, addStart}
-use Rattle.formulas.proofs.Layouts.{start-same}
+use Rattle.formulas.specs.Stages.{withStart, addNode, addStart}
+use Rattle.formulas.proofs.Grammar.{times-nodes}
+use Rattle.formulas.proofs.Layouts.{withNodes, without-nodes, start-same}
 
 module _ (t : Instrument) (k : Contents) (e : t ≡ layout k) (file : List ℕ) (at : ℕ) where
-  pub add-node : (g : Got (formula.Node ℕ)) → node limits (t .signals) (t .driven) (t .nodecount) file at ≡ g
-      → addNode k file at ≡ mapped (withNode k) g
-  add-node g q =
-      ap (mapped (withNode k)) (sym (ap (λ (u : Instrument). node limits (u .signals) (u .driven) (u .nodecount) file at) e) ∙ q)
+  -- so many nodes, where there are none before
+  pub add-nodes : (count : ℕ) → t .nodecount ≤ 0 → (g : Got (List (formula.Node ℕ)))
+      → nodes limits (t .signals) (t .driven) count file at ≡ g → times count addNode k file at ≡ mapped (withNodes k) g
+  add-nodes count h g q =
+      ap (λ (ns : List (formula.Node ℕ)). times count addNode (withNodes k ns) file at) (without-nodes t k e h)
+      ∙ times-nodes file count (k .signals) (k .components) (k .starts) at
+      ∙ ap (mapped (withNodes k)) (sym (ap (λ (u : Instrument). nodes limits (u .signals) (u .driven) count file at) e) ∙ q)
 
   pub add-start : (g : Got (List ℕ)) → t .components ≤ limits .components
       → listOf (startState limits (t .states)) (λ c v. c + 1) (t .components) 0 file at ≡ g → addStart k file at ≡ mapped (withStart k) g
@@ -52,3 +56,7 @@ module _ (file : List ℕ) (stage : Stage) (lo hi : ℕ) (t : Instrument) (at : 
             λ k l. x .on-from (found k (next .at)) (laid-accepted p next t k (found k (next .at)) h l refl)
             ∙ sym (ap (mapped layout) (ap (λ g. on g (λ n at. times n stage k file at)) e));
       }
+
+  pub counted-added : (n next : ℕ) → between limits lo hi 3 file at ≡ found n next → Adds file (times n stage) t next q → Adds file counting t at q
+  counted-added n next e x =
+      record { laid = λ k l. x .laid k l ∙ sym (ap (mapped layout) (ap (λ g. on g (λ n at. times n stage k file at)) e)) }

@@ -11,11 +11,11 @@ use Rattle.parsing.proofs.Times.{contents, list-times}
 use Rattle.formulas.specs.Stages.{addNode, addStart}
 
 module _ (file : List ℕ) (n : ℕ) (W : ℕ) where
-  pub times-nodes : (cs : List Component) (at : ℕ)
-      → times n addNode (contents W cs [] []) file at
-      ≡ mapped (λ ns. contents W cs ns []) (nodes limits W (drivenBy 0 cs) n file at)
-  times-nodes cs at =
-      list-times file (node limits W (drivenBy 0 cs)) (λ k a. k + 1) length (λ ns. contents W cs ns []) addNode (λ ns at. refl)
+  pub times-nodes : (cs : List Component) (ss : List (List ℕ)) (at : ℕ)
+      → times n addNode (contents W cs [] ss) file at
+      ≡ mapped (λ ns. contents W cs ns ss) (nodes limits W (drivenBy 0 cs) n file at)
+  times-nodes cs ss at =
+      list-times file (node limits W (drivenBy 0 cs)) (λ k a. k + 1) length (λ ns. contents W cs ns ss) addNode (λ ns at. refl)
       (λ ns a. length-append ns (a ∷ [])) n [] at
 
   pub times-starts : (cs : List Component) (ns : List (Node ℕ)) (at : ℕ)

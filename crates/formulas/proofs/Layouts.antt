@@ -1,7 +1,7 @@
--- The instrument of contents with one node or start more (specs/Layout of crate instrument).
-use mathlib.Core.Path.{_≡_, sym, ap, ap₂, _∙_}
-use mathlib.Core.List.{List, [], _∷_}
-use lib.ListN.{length, length-append, set, getD, replicate}
+-- The instrument of contents with nodes, and with one start more (specs/Layout of crate instrument).
+use mathlib.Core.Path.{_≡_, refl, sym, ap, ap₂, _∙_}
+use mathlib.Core.List.{List, [], _∷_, _++_, map}
+use lib.ListN.{length, length-append, set, getD}
 use lib.Seq.{sets}
 use native.Mathlib.Omega.{arith}
 use Prim.Native.Nat.{ℕ, zero, suc, _+_, _*_, _≤_, _<_}
@@ -15,7 +15,8 @@ use Rattle.instrument.specs.Layout.{layout, nodeOf, row}
 use Rattle.instrument.proofs.Rows.{filled-at, rows-of-more}
 use Rattle.parsing.proofs.Parsers.{on-each}
 use Rattle.parsing.proofs.Stores.{sets-map}
-use Rattle.formulas.specs.Stages.{withNode, withStart}
+use Rattle.parsing.proofs.Times.{contents}
+use Rattle.formulas.specs.Stages.{withStart}
 
 -- a start is judged by the sizes of its components
 states-same : (file : List ℕ) (u v : List ℕ) (n c : ℕ) → ((i : ℕ) → i < c + n → getD u i 0 ≡ getD v i 0) → (at : ℕ)
@@ -55,15 +56,30 @@ changed t nodecount nodes startcount starts =
       starts = starts;
     }
 
+-- contents with these nodes
+abbrev pub withNodes : Contents → List (formula.Node ℕ) → Contents
+withNodes k ns = contents (k .signals) (k .components) ns (k .starts)
+
+none : {A : Type 0} (l : List A) → length l ≤ 0 → l ≡ []
+none [] h = refl
+none (a ∷ l) h = absurd (omega arith)
+
+-- a node more is stored after those of a list
+pub node-more : (l l₀ : List Node) (k : ℕ) (n : Node) (ns : List (formula.Node ℕ)) (a : formula.Node ℕ) → length ns ≡ k → n ≡ nodeOf a
+    → l ≡ sets l₀ 0 (map nodeOf ns) → set l k n ≡ sets l₀ 0 (map nodeOf (ns ++ (a ∷ [])))
+node-more l l₀ k n ns a q p h = rw (h, p, sym q) (sets-map nodeOf l₀ ns a)
+
 module _ (t : Instrument) (k : Contents) (e : t ≡ layout k) where
-  pub node-laid : (a : formula.Node ℕ) (n : Node) → n ≡ nodeOf a
-      → changed t (t .nodecount + 1) (set (t .nodes) (t .nodecount) n) (t .startcount) (t .starts) ≡ layout (withNode k a)
-  node-laid a n h =
-      let ns = k .nodes in
-      ap (λ (u : Instrument). changed u (u .nodecount + 1) (set (u .nodes) (u .nodecount) n) (u .startcount) (u .starts)) e
-      ∙ ap (λ (n : Node). changed (layout k) (length ns + 1) (set (layout k .nodes) (length ns) n) (length (k .starts)) (layout k .starts)) h
-      ∙ ap₂ (λ (i : ℕ) (l : List Node). changed (layout k) i l (length (k .starts)) (layout k .starts)) (sym (length-append ns (a ∷ [])))
-      (sets-map nodeOf (replicate (limits .nodes) (nodeOf formula.top)) ns a)
+  pub without-nodes : t .nodecount ≤ 0 → k .nodes ≡ []
+  without-nodes h = none (k .nodes) (omega (arith, ap (λ (u : Instrument). u .nodecount) e))
+
+  pub nodes-laid : t .nodecount ≤ 0 → (ns : List (formula.Node ℕ)) (count : ℕ) (l : List Node) → count ≡ length ns
+      → l ≡ sets (t .nodes) 0 (map nodeOf ns) → changed t count l (t .startcount) (t .starts) ≡ layout (withNodes k ns)
+  nodes-laid h ns count l n m =
+      ap₂ (λ (i : ℕ) (l : List Node). changed t i l (t .startcount) (t .starts)) n m
+      ∙ ap (λ (u : Instrument). changed u (length ns) (sets (u .nodes) 0 (map nodeOf ns)) (u .startcount) (u .starts)) e
+      ∙ ap (λ (ms : List (formula.Node ℕ)). changed (layout k) (length ns) (sets (layout (withNodes k ms) .nodes) 0 (map nodeOf ns)) (length (k .starts)) (layout k .starts))
+      (without-nodes h)
 
   pub start-laid : (s l : List ℕ) → l ≡ sets (t .starts) (4 * t .startcount) s
       → changed t (t .nodecount) (t .nodes) (t .startcount + 1) l ≡ layout (withStart k s)

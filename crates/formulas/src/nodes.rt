@@ -4,52 +4,85 @@ use super::formula::NodeRead;
 use cursor::Cursor;
 use cursor::Read;
 use cursor::Refusal;
+use instrument::Instrument;
+use instrument::Node;
 use parsing::Outcome;
 use parsing::step;
 use parsing::step::Step;
-ghost use Prim.Native.Nat.{ℕ, _+_, _≤_, _<_};
-ghost use Rattle.meaning.specs.File.Grammar.{limits};
-ghost use Rattle.parsing.specs.Stages.{times};
-ghost use Rattle.parsing.specs.Steps.{Goes, Fits};
+ghost use mathlib.Core.Path.{_≡_};
+ghost use mathlib.Core.List.{map};
+ghost use Prim.Native.Nat.{ℕ, _≤_};
+ghost use lib.Seq.{sets};
+ghost use Rattle.meaning.specs.File.Grammar.{limits, nodes};
+ghost use Rattle.instrument.specs.Layout.{nodeOf};
+ghost use Rattle.parsing.specs.Stages.{mapped, times};
+ghost use Rattle.parsing.specs.Steps.{Adds, Goes, Fits};
 ghost use Rattle.formulas.specs.Stages.{addNode, readNodes};
+ghost use Rattle.formulas.specs.Formulas.{gotNodes};
 
-// One node more.
-fn next_node(file: &[u8], before: Step) -> Step
-    requires { ⌜ (before .instrument .nodecount < limits .nodes) × (before .instrument .signals ≤ limits .signals) ⌝ }
-    ensures { λ q. ⌜ Goes (now (file .entry)) addNode before q ⌝ }
-    ensures { λ q. ⌜ Fits (before .instrument .components) (before .instrument .nodecount + 1) (before .instrument .startcount) (q .instrument) ⌝ }
+// Nodes from the front of an array on and the place after them, or why they are refused.
+pub struct NodeList {
+    pub outcome: Outcome,
+    pub at: usize,
+    pub nodes: [Node; Instrument::MAX_NODES],
+}
+
+// So many nodes, in an array of others.
+fn all_nodes(
+    file: &[u8],
+    from: Cursor,
+    count: u32,
+    w: u32,
+    driven: u32,
+    others: [Node; Instrument::MAX_NODES],
+) -> NodeList
+    requires { ⌜ (count ≤ limits .nodes) × (w ≤ limits .signals) ⌝ }
+    ensures { λ r. ⌜ gotNodes r ≡ mapped (λ ns. sets others 0 (map nodeOf ns)) (nodes limits w driven count (now (file .entry)) (from .at)) ⌝ }
 {
-    let outcome = before.outcome;
-    match outcome {
-        Outcome::Refused(r) => step::refused(r),
-        Outcome::Accepted => {
-            let mut t = before.instrument;
-            let k = t.nodecount;
-            match formula::node(file, Cursor { at: before.at }, t.signals, t.driven, k) {
-                NodeRead::Unknown(r) => step::refused(r),
-                NodeRead::Known(n, next) => {
-                    t.nodes[k as usize] = n;
-                    t.nodecount = k + 1;
-                    step::accepted(next, t)
-                }
+    let mut list = others;
+    let mut place = from;
+    let mut k: u32 = 0;
+    while k < count {
+        match formula::node(file, place, w, driven, k) {
+            NodeRead::Unknown(r) => {
+                return NodeList {
+                    outcome: Outcome::Refused(r),
+                    at: 0,
+                    nodes: list,
+                };
+            }
+            NodeRead::Known(n, next) => {
+                list[k as usize] = n;
+                place = next;
             }
         }
+        k += 1;
+    }
+    NodeList {
+        outcome: Outcome::Accepted,
+        at: place.at,
+        nodes: list,
     }
 }
 
-// So many nodes more.
-fn all_nodes(file: &[u8], before: Step, count: u32) -> Step
-    requires { ⌜ (before .instrument .nodecount + count ≤ limits .nodes) × (before .instrument .signals ≤ limits .signals) ⌝ }
-    ensures { λ q. ⌜ Goes (now (file .entry)) (times count addNode) before q ⌝ }
-    ensures { λ q. ⌜ Fits (before .instrument .components) (before .instrument .nodecount + count) (before .instrument .startcount) (q .instrument) ⌝ }
+// An instrument without nodes, with so many.
+fn with_nodes(file: &[u8], from: Cursor, count: u32, mut t: Instrument) -> Step
+    requires { ⌜ (count ≤ limits .nodes) × Fits (limits .components) 0 0 t ⌝ }
+    ensures { λ q. ⌜ Adds (now (file .entry)) (times count addNode) t (from .at) q ⌝ }
+    ensures { λ q. ⌜ Fits (limits .components) (limits .nodes) 0 (q .instrument) ⌝ }
 {
-    let mut all = before;
-    let mut i: u32 = 0;
-    while i < count {
-        all = next_node(file, all);
-        i += 1;
+    let others = t.nodes;
+    let read = all_nodes(file, from, count, t.signals, t.driven, others);
+    let outcome = read.outcome;
+    match outcome {
+        Outcome::Refused(r) => step::refused(r),
+        Outcome::Accepted => {
+            let list = read.nodes;
+            t.nodecount = count;
+            t.nodes = list;
+            step::accepted(Cursor { at: read.at }, t)
+        }
     }
-    all
 }
 
 // The node count and the nodes.
@@ -66,7 +99,7 @@ pub fn nodes(file: &[u8], before: Step) -> Step
             let from = Cursor { at: before.at };
             match from.between(file, 1, 24, Refusal::Range) {
                 Read::Refused(r) => step::refused(r),
-                Read::Number(count, first) => all_nodes(file, step::accepted(first, t), count),
+                Read::Number(count, first) => with_nodes(file, first, count, t),
             }
         }
     }

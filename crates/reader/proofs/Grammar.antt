@@ -38,7 +38,7 @@ module _ (file : List ℕ) where
   formula W cs at =
       on-assoc (between limits 1 (limits .nodes) 3 file at) _ _
       ∙ on-each (between limits 1 (limits .nodes) 3 file at) _ _
-      (λ c at e. ap (λ g. on g (λ k at. on (readStarts k file at) (λ k at. readEnd k file at))) (times-nodes file c W cs at)
+      (λ c at e. ap (λ g. on g (λ k at. on (readStarts k file at) (λ k at. readEnd k file at))) (times-nodes file c W cs [] at)
       ∙ on-assoc (nodes limits W (drivenBy 0 cs) c file at) _ _
       ∙ on-each (nodes limits W (drivenBy 0 cs) c file at) _ _ (λ ns at e. ended W cs ns at))
 

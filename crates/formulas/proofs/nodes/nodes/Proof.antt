@@ -1,10 +1,8 @@
 use mathlib.Core.Path.{sym, ap, _∙_}
-use native.Mathlib.Omega.{arith}
 use Rattle.cursor.specs.Answers.{got}
 use Rattle.cursor.proofs.Judged.{between-le}
-use Rattle.parsing.specs.declared.step.Step.{Step}
-use Rattle.parsing.proofs.Steps.{goes-refused, goes-accepted, fits-refused, fits-more}
-use Rattle.formulas.proofs.Counted.{uncounted, counted}
+use Rattle.parsing.proofs.Steps.{goes-refused, goes-accepted, fits-refused}
+use Rattle.formulas.proofs.Counted.{uncounted, counted-added}
 use borrow.Author.Needs.{needs}
 use Rattle.formulas.proofs.nodes.nodes.Statement.{statement}
 use Rattle.formulas.proofs.nodes.nodes.Tie as tie
@@ -30,18 +28,12 @@ refused-requires-2 c κs = search needs
 enum-known-count : tie.Need-enum-known-count
 enum-known-count c = search needs
 
-accepted-requires : tie.Need-accepted-requires
-accepted-requires c κs = search needs
-
-all-nodes-requires : tie.Need-all-nodes-requires
-all-nodes-requires c κs =
-    let between′ = c .before .before .before .before .between in
-    let count′ = c .before .before .count in
-    let pre′ = c .before .before .before .before .before .before .before .before .before .pre in
-    let few = between-le _ _ _ _ _ _ _ (sym (between′ .ensures) ∙ ap got (count′ .given .1)) in
-    let n = ap (λ (p : Step). p .instrument .nodecount) (c .accepted .ensures) in
-    let s = ap (λ (p : Step). p .instrument .signals) (c .accepted .ensures) in
-    (omega (arith, few, pre′ .few-nodes), omega (arith, pre′ .few-signals))
+with-nodes-requires : tie.Need-with-nodes-requires
+with-nodes-requires c κs =
+    let between′ = c .before .before .before .between in
+    let count′ = c .before .count in
+    let pre′ = c .before .before .before .before .before .before .before .before .pre in
+    (between-le _ _ _ _ _ _ _ (sym (between′ .ensures) ∙ ap got (count′ .given .1)), pre′)
 
 returns : tie.Need-returns
 returns c =
@@ -60,18 +52,12 @@ returns-2 c =
 
 returns-3 : tie.Need-returns-3
 returns-3 c =
-    let between′ = c .before .before .before .before .before .between in
-    let count′ = c .before .before .before .count in
-    let p = c .before .before .before .before .before .before .before .before .before .before .pre in
-    let enum-told′ = c .before .before .before .before .before .before .before .enum-told in
-    let b = sym (between′ .ensures) ∙ ap got (count′ .given .1) in
-    let few = between-le _ _ _ _ _ _ _ b in
-    let components = ap (λ (p : Step). p .instrument .components) (c .before .accepted .ensures) in
-    let n = ap (λ (p : Step). p .instrument .nodecount) (c .before .accepted .ensures) in
-    let s = ap (λ (p : Step). p .instrument .startcount) (c .before .accepted .ensures) in (
-      goes-accepted _ _ _ _ (enum-told′ .given .1) (counted _ _ _ _ _ _ _ _ _ _ b (c .before .accepted .ensures) (c .all-nodes .ensures .0)),
-      fits-more _ _ _ _ _ _ _ (omega (arith, p .few-components)) (omega (arith, few, p .few-nodes)) (omega (arith, p .few-starts))
-          (c .all-nodes .ensures .1),
+    let between′ = c .before .before .before .before .between in
+    let count′ = c .before .before .count in
+    let enum-told′ = c .before .before .before .before .before .before .enum-told in (
+      goes-accepted _ _ _ _ (enum-told′ .given .1)
+          (counted-added _ _ _ _ _ _ _ _ _ (sym (between′ .ensures) ∙ ap got (count′ .given .1)) (c .with-nodes .ensures .0)),
+      c .with-nodes .ensures .1,
     )
 
 pub nodes-spec : {M : Type 1} → statement M
@@ -85,8 +71,7 @@ nodes-spec =
     enum-known-r
     refused-requires-2
     enum-known-count
-    accepted-requires
-    all-nodes-requires
+    with-nodes-requires
     returns
     returns-2
     returns-3)
