@@ -98,11 +98,18 @@ impl Cursor {
         Cursor { at: 0 }
     }
 
-    // The number at this place.
+    // The number at this place; most have one group.
     pub fn number(self, file: &[u8]) -> Read
         ensures { λ r. ⌜ got r ≡ grammar.number grammar.limits (now (file .entry)) (self .at) ⌝ }
     {
-        groups(file, self.at, 4)
+        let at = self.at;
+        if at < file.len() {
+            let first = file[at] as u32;
+            if first < 128 {
+                return Read::Number(first, Cursor { at: at + 1 });
+            }
+        }
+        groups(file, at, 4)
     }
 
     // The number at this place if it is one from lo to hi, else the cause.

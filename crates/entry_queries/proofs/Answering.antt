@@ -18,9 +18,9 @@ use Rattle.meaning.proofs.File.Accepted.{file-accepted}
 use Rattle.cursor.specs.Answers.{number}
 use Rattle.cursor.specs.declared.Refusal.{Refusal}
 use Rattle.cursor.specs.declared.Refusal.the-variants as refusals
+use Rattle.parsing.specs.declared.Outcome as told
+use Rattle.parsing.specs.declared.Outcome.the-variants as outcomes
 use Rattle.reader.specs.Outcomes.{Tells, layoutOf}
-use Rattle.reader.specs.declared.Outcome as told
-use Rattle.reader.specs.declared.Outcome.the-variants as outcomes
 use Rattle.instrument.specs.declared.Instrument as code
 use Rattle.instrument.specs.Layout.{layout}
 use Rattle.instrument.specs.Described.{Describes}

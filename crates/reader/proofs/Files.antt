@@ -4,18 +4,21 @@ use mathlib.Core.List.{List}
 use lib.ListN.{length}
 use borrow.Author.Tests.{le-leb, lt-leb}
 use Prim.Native.Nat.{ℕ, _≤_, _<_}
-use Rattle.meaning.specs.File.Parser.{Got, found, fault, on}
-use Rattle.meaning.specs.File.Grammar.{Contents, readFile}
+use Rattle.meaning.specs.File.Parser.{found, on}
+use Rattle.meaning.specs.File.Grammar.{readFile}
 use Rattle.meaning.proofs.File.Lists.{on-assoc}
 use Rattle.cursor.specs.declared.Refusal.the-variants.{Trailing}
 use Rattle.instrument.specs.declared.Instrument.{Instrument}
 use Rattle.instrument.specs.Layout.{layout}
-use Rattle.reader.specs.declared.Outcome.the-variants.{Accepted}
-use Rattle.reader.specs.declared.step.Step.{Step}
-use Rattle.reader.specs.Stages.{mapped, readTables, readNodes, readStarts, readEnd}
-use Rattle.reader.specs.Steps.{refusedStep, Adds, Goes, Laid}
+use Rattle.parsing.specs.declared.Outcome.the-variants.{Accepted}
+use Rattle.parsing.specs.declared.step.Step.{Step}
+use Rattle.parsing.specs.Stages.{mapped}
+use Rattle.parsing.specs.Steps.{refusedStep, Adds, Goes}
+use Rattle.parsing.proofs.Steps.{laid-refused, accepted-was}
+use Rattle.tables.specs.Stages.{readTables}
+use Rattle.formulas.specs.Stages.{readNodes, readStarts}
+use Rattle.reader.specs.Stages.{readEnd}
 use Rattle.reader.proofs.Grammar.{read-all}
-use Rattle.reader.proofs.Steps.{laid-refused, accepted-was}
 
 module _ (file : List ℕ) where
   pub trailing : (t : Instrument) (at : ℕ) (q : Step) → at < length file → q ≡ refusedStep Trailing → Adds file readEnd t at q

@@ -1,5 +1,4 @@
 -- The place moves on only past a number that was read (document 01): what is found ends after where it began, within the file.
-use mathlib.Core.Path.{_≡_, refl, ap}
 use mathlib.Core.Bool.{Bool, true, false, _&&_, not}
 use mathlib.Core.List.{List, [], _∷_}
 use lib.Dec.{ltb, leb}
@@ -9,7 +8,7 @@ use Prim.Native.Nat.{ℕ, zero, suc, _+_, _-_, _*_, _%_, _^_, _≤_, _<_}
 use Rattle.words.specs.Sets.{has}
 use Rattle.meaning.specs.File.Parser.{Got, found, fault, Parser, Done, done, demand, on, listOf, repeat}
 use Rattle.meaning.specs.File.Number.{choose, withHigher, groups}
-use Rattle.meaning.specs.File.Grammar.{Component, limits, number, between, signal, signals, component, components, withAll}
+use Rattle.meaning.specs.File.Grammar.{Component, limits, number, between, signal, signals, component, withAll}
 use Rattle.meaning.proofs.File.Lists.{Says, says-map, on-says, list-none, list-more}
 
 -- bytes of a number are read, and no others

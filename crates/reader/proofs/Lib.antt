@@ -1,12 +1,4 @@
-pub mod Stores
-pub mod Signals
-pub mod Formulas
-pub mod Parsers
 pub mod Grammar
-pub mod Layouts
-pub mod Parts
-pub mod Steps
-pub mod Counted
 pub mod Files
 pub mod Places
 pub mod Forward

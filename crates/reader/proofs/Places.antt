@@ -1,6 +1,6 @@
 -- Where a component stands, in the steps of the code.
 use mathlib.Core.Path.{_≡_, refl, sym, ap, _∙_}
-use mathlib.Core.List.{List, []}
+use mathlib.Core.List.{List}
 use lib.ListN.{length}
 use lib.Dec.{ltb}
 use borrow.Author.Tests.{le-ltb, lt-ltb}
@@ -14,16 +14,18 @@ use Rattle.cursor.specs.Answers.{number}
 use Rattle.cursor.specs.declared.Refusal.{Refusal}
 use Rattle.instrument.specs.declared.Instrument.{Instrument}
 use Rattle.instrument.specs.Layout.{layout}
+use Rattle.parsing.specs.declared.Outcome.{Outcome}
+use Rattle.parsing.specs.declared.Outcome.the-variants.{Accepted, Refused}
+use Rattle.parsing.specs.declared.step.Step.{Step}
+use Rattle.parsing.specs.Stages.{mapped, times}
+use Rattle.parsing.specs.Steps.{reachedBy, Laid}
+use Rattle.parsing.proofs.Parsers.{on-each}
+use Rattle.tables.specs.Stages.{addComponent, opened, readFirst}
+use Rattle.tables.proofs.Grammar.{counts-then, times-components}
 use Rattle.reader.specs.declared.Located.{Located}
-use Rattle.reader.specs.declared.Outcome.{Outcome}
-use Rattle.reader.specs.declared.Outcome.the-variants.{Accepted, Refused}
-use Rattle.reader.specs.declared.step.Step.{Step}
 use Rattle.reader.specs.Outcomes.{outcomeNumber, faultNumber}
 use Rattle.reader.specs.Stretches.{Stretch, stretchOf, located, startOf, endOf}
-use Rattle.reader.specs.Stages.{mapped, Stage, addComponent, times, opened, readFirst, withComponent}
-use Rattle.reader.specs.Steps.{reachedBy, Laid, Locates, refusedStretch}
-use Rattle.reader.proofs.Grammar.{times-components}
-use Rattle.reader.proofs.Parsers.{on-each}
+use Rattle.reader.specs.Answers.{Locates, refusedStretch}
 
 pub locates-refused : (l : Located) (r : Refusal) (g : Got Stretch) → l ≡ refusedStretch r → g ≡ fault (number r) → Locates l g
 locates-refused l r g e h =
@@ -50,7 +52,7 @@ module _ (file : List ℕ) where
   stretch-stages : (c : ℕ) → stretchOf c file 0 ≡ bothPlaces file (readFirst c file 0)
   stretch-stages c =
       sym
-      (ap (bothPlaces file) counts
+      (ap (bothPlaces file) (counts-then file (λ n W at. times c addComponent (opened W) file at))
       ∙ on-assoc (between limits 1 (limits .components) 3 file 0) _ _
       ∙ on-each (between limits 1 (limits .components) 3 file 0) _ _
       (λ n at e. on-assoc (between limits 0 (limits .signals) 3 file at) _ _
@@ -59,18 +61,6 @@ module _ (file : List ℕ) where
       ∙ on-assoc (components limits W c file at) _ _
       ∙ on-each (components limits W c file at) _ _
       (λ cs at e. on-assoc (component limits W (drivenBy 0 cs) file at) _ _))))
-    where
-      -- the two counts one after the other
-      counts : readFirst c file 0
-          ≡ on (between limits 1 (limits .components) 3 file 0)
-          (λ n at. on (between limits 0 (limits .signals) 3 file at) (λ W at. times c addComponent (opened W) file at))
-      counts =
-          on-assoc (between limits 1 (limits .components) 3 file 0)
-          (λ n at. on (between limits 0 (limits .signals) 3 file at) (λ W at. found (record { components = n; signals = W }) at))
-          (λ both at. times c addComponent (opened (both .signals)) file at)
-          ∙ on-each (between limits 1 (limits .components) 3 file 0) _ _
-          (λ n at e. on-assoc (between limits 0 (limits .signals) 3 file at) (λ W at. found (record { components = n; signals = W }) at)
-          (λ both at. times c addComponent (opened (both .signals)) file at))
 
   module _ (p : Step) (g : Got Contents) (l : Laid p g) where
     places-fault : (r : ℕ) → on g (λ k at. addComponent k file at) ≡ fault r → bothPlaces file g ≡ fault r

@@ -2,12 +2,12 @@
 -- the component's own parser reads just that component.
 use mathlib.Core.Path.{_≡_, refl, sym, ap, subst, _∙_}
 use mathlib.Core.Bool.{Bool, true, false}
-use mathlib.Core.List.{List, [], _∷_, map}
+use mathlib.Core.List.{List, _∷_, map}
 use lib.Dec.{ltb}
 use lib.ListN.{length, getD, take}
 use borrow.Author.Tests.{lt-ltb}
 use native.Mathlib.Omega.{arith}
-use Prim.Native.Nat.{ℕ, zero, suc, _+_, _≤_, _<_}
+use Prim.Native.Nat.{ℕ, zero, suc, _≤_, _<_}
 use Rattle.meaning.specs.File.Parser.{Got, found, fault, on, listOf, repeat}
 use Rattle.meaning.specs.File.Number.{choose}
 use Rattle.meaning.specs.File.Grammar.{Component, Contents, limits, between, component, components, nodes, start, finished, withAll, drivenBy}

@@ -3,5 +3,4 @@ pub mod Outcomes
 pub mod Stretches
 -- what its functions promise each other
 pub mod Stages
-pub mod Steps
-pub mod Formulas
+pub mod Answers

@@ -6,8 +6,8 @@ use Rattle.meaning.specs.File.Grammar.{Contents}
 use Rattle.cursor.specs.Answers.{number}
 use Rattle.instrument.specs.declared.Instrument.{Instrument}
 use Rattle.instrument.specs.Layout.{layout, nothing}
-use Rattle.reader.specs.declared.Outcome.{Outcome}
-use Rattle.reader.specs.declared.Outcome.the-variants.{Accepted, Refused}
+use Rattle.parsing.specs.declared.Outcome.{Outcome}
+use Rattle.parsing.specs.declared.Outcome.the-variants.{Accepted, Refused}
 
 -- 0 where the file is accepted, else the number of the refusal
 abbrev pub outcomeNumber : Outcome → ℕ

@@ -19,9 +19,9 @@ use Rattle.meaning.proofs.Basic.Bounded.{all-out}
 use Rattle.meaning.proofs.File.Accepted.{file-accepted}
 use Rattle.cursor.specs.Answers.{number}
 use Rattle.cursor.specs.declared.Refusal.{Refusal}
+use Rattle.parsing.specs.declared.Outcome as told
+use Rattle.parsing.specs.declared.Outcome.the-variants as outcomes
 use Rattle.reader.specs.Outcomes.{Tells}
-use Rattle.reader.specs.declared.Outcome as told
-use Rattle.reader.specs.declared.Outcome.the-variants as outcomes
 use Rattle.instrument.specs.declared.Instrument as code
 use Rattle.instrument.specs.Described.{Describes}
 use Rattle.instrument.proofs.Bounds.{count-bounds}

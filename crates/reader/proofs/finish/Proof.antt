@@ -1,5 +1,5 @@
+use Rattle.parsing.proofs.Steps.{goes-refused, goes-accepted, fits-refused}
 use Rattle.reader.proofs.Files.{trailing, ended}
-use Rattle.reader.proofs.Steps.{goes-refused, goes-accepted, fits-refused}
 use borrow.Author.Needs.{needs}
 use Rattle.reader.proofs.finish.Statement.{statement}
 use Rattle.reader.proofs.finish.Tie as tie

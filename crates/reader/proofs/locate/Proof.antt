@@ -1,10 +1,10 @@
 use mathlib.Core.Path.{sym, ap, _∙_}
 use native.Mathlib.Omega.{arith}
 use Rattle.meaning.specs.File.Grammar.{readFile}
+use Rattle.parsing.proofs.Steps.{refused-was, accepted-was}
 use Rattle.reader.specs.Outcomes.{faultNumber}
 use Rattle.reader.specs.Stretches.{startOf, endOf}
 use Rattle.reader.proofs.Places.{locates-refused, located-fault, located-beyond, located-within}
-use Rattle.reader.proofs.Steps.{refused-was, accepted-was}
 use borrow.Author.Needs.{needs}
 use Rattle.reader.proofs.locate.Statement.{statement}
 use Rattle.reader.proofs.locate.Tie as tie

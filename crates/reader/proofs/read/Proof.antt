@@ -1,8 +1,8 @@
 use mathlib.Core.Path.{refl, sym, subst, ap, _∙_}
 use Rattle.meaning.specs.File.Grammar.{readFile}
+use Rattle.parsing.specs.declared.Outcome.the-variants.{Accepted, Refused}
+use Rattle.parsing.proofs.Steps.{refused-was, accepted-was}
 use Rattle.reader.specs.Outcomes.{layoutOf, Tells}
-use Rattle.reader.specs.declared.Outcome.the-variants.{Accepted, Refused}
-use Rattle.reader.proofs.Steps.{refused-was, accepted-was}
 use borrow.Author.Needs.{needs}
 use Rattle.reader.proofs.read.Statement.{statement}
 use Rattle.reader.proofs.read.Tie as tie

@@ -1,11 +1,11 @@
 use mathlib.Core.Path.{sym, ap}
 use native.Mathlib.Omega.{arith}
 use Rattle.meaning.specs.File.Parser.{on}
+use Rattle.parsing.proofs.Steps.{refused-was, accepted-was}
+use Rattle.tables.specs.Stages.{addComponent, readFirst}
 use Rattle.reader.specs.Outcomes.{faultNumber}
 use Rattle.reader.specs.Stretches.{startOf, endOf}
-use Rattle.reader.specs.Stages.{addComponent, readFirst}
 use Rattle.reader.proofs.Places.{locates-refused, stretch-fault, stretch-found}
-use Rattle.reader.proofs.Steps.{refused-was, accepted-was}
 use borrow.Author.Needs.{needs}
 use Rattle.reader.proofs.stretch.Statement.{statement}
 use Rattle.reader.proofs.stretch.Tie as tie

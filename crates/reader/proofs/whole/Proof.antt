@@ -1,7 +1,9 @@
 use mathlib.Core.Path.{ap, _∙_}
 use Rattle.meaning.specs.File.Parser.{on}
 use Rattle.instrument.specs.Layout.{layout}
-use Rattle.reader.specs.Stages.{mapped, readTables, readNodes, readStarts}
+use Rattle.parsing.specs.Stages.{mapped}
+use Rattle.tables.specs.Stages.{readTables}
+use Rattle.formulas.specs.Stages.{readNodes, readStarts}
 use Rattle.reader.proofs.Files.{in-stages}
 use borrow.Author.Needs.{needs}
 use Rattle.reader.proofs.whole.Statement.{statement}

@@ -1,0 +1,91 @@
+-- The instrument of contents with nodes, and with one start more (specs/Layout of crate instrument).
+use mathlib.Core.Path.{_≡_, refl, sym, ap, ap₂, _∙_}
+use mathlib.Core.List.{List, [], _∷_, _++_, map}
+use lib.ListN.{length, length-append, set, getD}
+use lib.Seq.{sets}
+use native.Mathlib.Omega.{arith}
+use Prim.Native.Nat.{ℕ, zero, suc, _+_, _*_, _≤_, _<_}
+use Rattle.meaning.specs.File.Parser.{on, listOf, found}
+use Rattle.meaning.specs.Nodes as formula
+use Rattle.meaning.specs.File.Grammar.{Contents, limits, lessThan, startState, start}
+use Rattle.meaning.proofs.File.Lists.{list-none, list-more}
+use Rattle.instrument.specs.declared.Instrument.{Instrument}
+use Rattle.instrument.specs.declared.Node.{Node}
+use Rattle.instrument.specs.Layout.{layout, nodeOf, row}
+use Rattle.instrument.proofs.Rows.{filled-at, rows-of-more}
+use Rattle.parsing.proofs.Parsers.{on-each}
+use Rattle.parsing.proofs.Stores.{sets-map}
+use Rattle.parsing.proofs.Times.{contents}
+use Rattle.formulas.specs.Stages.{withStart}
+
+-- a start is judged by the sizes of its components
+states-same : (file : List ℕ) (u v : List ℕ) (n c : ℕ) → ((i : ℕ) → i < c + n → getD u i 0 ≡ getD v i 0) → (at : ℕ)
+    → listOf (startState limits u) (λ c x. c + 1) n c file at ≡ listOf (startState limits v) (λ c x. c + 1) n c file at
+states-same file u v zero c h at =
+    list-none (startState limits u) (λ c x. c + 1) file c at ∙ sym (list-none (startState limits v) (λ c x. c + 1) file c at)
+states-same file u v (suc n) c h at =
+    list-more (startState limits u) (λ c x. c + 1) file n c at
+    ∙ ap
+    (λ (b : ℕ). on (lessThan limits b 9 file at)
+    (λ a next. on (listOf (startState limits u) (λ c x. c + 1) n (c + 1) file next) (λ l e. found (a ∷ l) e))) (h c (omega arith))
+    ∙ on-each (startState limits v c file at) _ _
+    (λ a next e. ap (λ g. on g (λ l e. found (a ∷ l) e)) (states-same file u v n (c + 1) (λ i l. h i (omega arith)) next))
+    ∙ sym (list-more (startState limits v) (λ c x. c + 1) file n c at)
+
+pub start-same : (file : List ℕ) (n : ℕ) (vs : List ℕ) → length vs ≤ n → (at : ℕ)
+    → listOf (startState limits (row n vs)) (λ c x. c + 1) (length vs) 0 file at ≡ start limits vs file at
+start-same file n vs h at = states-same file (row n vs) vs (length vs) 0 (λ i l. filled-at 0 n vs h i) at
+
+-- an instrument with another formula and other starts
+abbrev pub changed : Instrument → ℕ → List Node → ℕ → List ℕ → Instrument
+changed t nodecount nodes startcount starts =
+    record {
+      components = t .components;
+      signals = t .signals;
+      driven = t .driven;
+      states = t .states;
+      inputcounts = t .inputcounts;
+      inputs = t .inputs;
+      outputcounts = t .outputcounts;
+      outputs = t .outputs;
+      outs = t .outs;
+      nexts = t .nexts;
+      nodecount = nodecount;
+      nodes = nodes;
+      startcount = startcount;
+      starts = starts;
+    }
+
+-- contents with these nodes
+abbrev pub withNodes : Contents → List (formula.Node ℕ) → Contents
+withNodes k ns = contents (k .signals) (k .components) ns (k .starts)
+
+none : {A : Type 0} (l : List A) → length l ≤ 0 → l ≡ []
+none [] h = refl
+none (a ∷ l) h = absurd (omega arith)
+
+-- a node more is stored after those of a list
+pub node-more : (l l₀ : List Node) (k : ℕ) (n : Node) (ns : List (formula.Node ℕ)) (a : formula.Node ℕ) → length ns ≡ k → n ≡ nodeOf a
+    → l ≡ sets l₀ 0 (map nodeOf ns) → set l k n ≡ sets l₀ 0 (map nodeOf (ns ++ (a ∷ [])))
+node-more l l₀ k n ns a q p h = rw (h, p, sym q) (sets-map nodeOf l₀ ns a)
+
+module _ (t : Instrument) (k : Contents) (e : t ≡ layout k) where
+  pub without-nodes : t .nodecount ≤ 0 → k .nodes ≡ []
+  without-nodes h = none (k .nodes) (omega (arith, ap (λ (u : Instrument). u .nodecount) e))
+
+  pub nodes-laid : t .nodecount ≤ 0 → (ns : List (formula.Node ℕ)) (count : ℕ) (l : List Node) → count ≡ length ns
+      → l ≡ sets (t .nodes) 0 (map nodeOf ns) → changed t count l (t .startcount) (t .starts) ≡ layout (withNodes k ns)
+  nodes-laid h ns count l n m =
+      ap₂ (λ (i : ℕ) (l : List Node). changed t i l (t .startcount) (t .starts)) n m
+      ∙ ap (λ (u : Instrument). changed u (length ns) (sets (u .nodes) 0 (map nodeOf ns)) (u .startcount) (u .starts)) e
+      ∙ ap (λ (ms : List (formula.Node ℕ)). changed (layout k) (length ns) (sets (layout (withNodes k ms) .nodes) 0 (map nodeOf ns)) (length (k .starts)) (layout k .starts))
+      (without-nodes h)
+
+  pub start-laid : (s l : List ℕ) → l ≡ sets (t .starts) (4 * t .startcount) s
+      → changed t (t .nodecount) (t .nodes) (t .startcount + 1) l ≡ layout (withStart k s)
+  start-laid s l h =
+      let ss = k .starts in
+      ap (λ (l : List ℕ). changed t (t .nodecount) (t .nodes) (t .startcount + 1) l) h
+      ∙ ap (λ (u : Instrument). changed u (u .nodecount) (u .nodes) (u .startcount + 1) (sets (u .starts) (4 * u .startcount) s)) e
+      ∙ ap₂ (λ (i : ℕ) (l : List ℕ). changed (layout k) (length (k .nodes)) (layout k .nodes) i l) (sym (length-append ss (s ∷ [])))
+      (rows-of-more (limits .components) (limits .starts) ss s)

@@ -1,0 +1,58 @@
+use mathlib.Core.Path.{sym, ap, _∙_}
+use Rattle.cursor.specs.Answers.{got}
+use Rattle.formulas.proofs.Formulas.{named-stopped, named-high, named-good, named-undriven}
+use borrow.Author.Needs.{needs}
+use Rattle.formulas.proofs.formula.named.Statement.{statement}
+use Rattle.formulas.proofs.formula.named.Tie as tie
+
+number-requires : tie.Need-number-requires
+number-requires c κs = search needs
+
+enum-known-r : tie.Need-enum-known-r
+enum-known-r c = search needs
+
+enum-known-v : tie.Need-enum-known-v
+enum-known-v c = search needs
+
+returns : tie.Need-returns
+returns c =
+    let number′ = c .before .before .before .before .number in
+    let v′ = c .before .before .v in
+    sym (named-high _ _ _ _ _ _ (sym (number′ .ensures) ∙ ap got (v′ .given .1)) (c .if1 .taken))
+
+member-requires : tie.Need-member-requires
+member-requires c κs = search needs
+
+returns-2 : tie.Need-returns-2
+returns-2 c =
+    let number′ = c .before .before .before .before .before .before .number in
+    let v′ = c .before .before .before .before .v in
+    let if1′ = c .before .before .if1 in
+    sym
+    (named-good _ _ _ _ _ _ (sym (number′ .ensures) ∙ ap got (v′ .given .1)) (if1′ .left) (sym (c .before .member .ensures) ∙ c .if2 .taken))
+
+returns-3 : tie.Need-returns-3
+returns-3 c =
+    let number′ = c .before .before .before .number in
+    sym (named-stopped _ _ _ _ _ (sym (number′ .ensures) ∙ ap got (c .before .r .given .1)))
+
+returns-4 : tie.Need-returns-4
+returns-4 c =
+    let number′ = c .before .before .before .before .before .before .number in
+    let v′ = c .before .before .before .before .v in
+    let if1′ = c .before .before .if1 in
+    sym
+    (named-undriven _ _ _ _ _ _ (sym (number′ .ensures) ∙ ap got (v′ .given .1)) (if1′ .left) (sym (c .before .member .ensures) ∙ c .if2 .left))
+
+pub named-spec : {M : Type 1} → statement M
+named-spec =
+    tie.close
+    (tie.spec
+    number-requires
+    enum-known-r
+    enum-known-v
+    returns
+    member-requires
+    returns-2
+    returns-3
+    returns-4)

@@ -1,0 +1,43 @@
+use mathlib.Core.Path.{sym, ap, _∙_}
+use Rattle.cursor.specs.Answers.{got}
+use Rattle.instrument.specs.Layout.{nodeOf}
+use Rattle.parsing.specs.Stages.{mapped}
+use Rattle.formulas.proofs.Formulas.{node-stopped, node-kind}
+use borrow.Author.Needs.{needs}
+use Rattle.formulas.proofs.formula.node.Statement.{statement}
+use Rattle.formulas.proofs.formula.node.Tie as tie
+
+number-requires : tie.Need-number-requires
+number-requires c κs = search needs
+
+enum-known-r : tie.Need-enum-known-r
+enum-known-r c = search needs
+
+enum-known-kind : tie.Need-enum-known-kind
+enum-known-kind c = search needs
+
+operands-requires : tie.Need-operands-requires
+operands-requires c κs = search needs
+
+returns : tie.Need-returns
+returns c =
+    let number′ = c .before .before .before .number in
+    sym (ap (mapped nodeOf) (node-stopped _ _ _ _ _ _ (sym (number′ .ensures) ∙ ap got (c .before .r .given .1))))
+
+returns-2 : tie.Need-returns-2
+returns-2 c =
+    let number′ = c .before .before .before .before .number in
+    let kind′ = c .before .before .kind in
+    c .operands .ensures
+    ∙ sym (ap (mapped nodeOf) (node-kind _ _ _ _ _ _ _ (sym (number′ .ensures) ∙ ap got (kind′ .given .1))))
+
+pub node-spec : {M : Type 1} → statement M
+node-spec =
+    tie.close
+    (tie.spec
+    number-requires
+    enum-known-r
+    enum-known-kind
+    operands-requires
+    returns
+    returns-2)

@@ -1,0 +1,100 @@
+-- The loop has read the first k nodes, and they are stored.
+use mathlib.Core.Path.{_≡_, refl, sym, ap, _∙_}
+use mathlib.Core.List.{List, map}
+use lib.Seq.{sets}
+use native.Mathlib.Omega.{arith}
+use borrow.Author.Needs.{needs}
+use Prim.Native.Nat.{ℕ, _+_, _-_, _≤_}
+use Rattle.meaning.specs.Nodes as formula
+use Rattle.meaning.specs.File.Parser.{found}
+use Rattle.meaning.specs.File.Grammar.{node, limits}
+use Rattle.meaning.proofs.File.Progress.{Progress, begin, stop, more, end}
+use Rattle.instrument.specs.Layout.{nodeOf}
+use Rattle.parsing.specs.Stages.{mapped}
+use Rattle.parsing.proofs.Parsers.{was, was-fault}
+use Rattle.formulas.specs.Formulas.{gotNode}
+use Rattle.formulas.proofs.Layouts.{node-more}
+use Rattle.formulas.proofs.nodes.all_nodes.Statement.{statement}
+use Rattle.formulas.proofs.nodes.all_nodes.Tie as tie
+
+abbrev Inv-loop : tie.InvT-loop
+Inv-loop file count w driven list₀ place₀ k₀ list place k =
+    (k ≤ count)
+    × Progress (node limits w driven) (λ k a. k + 1) file count 0 (place₀ .at)
+    (λ (l : List (formula.Node ℕ)). list ≡ sets list₀ 0 (map nodeOf l)) k k (place .at)
+
+abbrev μ-loop : tie.MeasureT-loop
+μ-loop file count w driven list₀ place₀ k₀ list place k = count - k
+
+loop-holds : tie.Need-loop-holds Inv-loop μ-loop
+loop-holds c = (omega arith, begin _ _ _ _ _ _ _ refl)
+
+node-requires : tie.Need-node-requires Inv-loop μ-loop
+node-requires c κs = search needs
+
+enum-known-r : tie.Need-enum-known-r Inv-loop μ-loop
+enum-known-r c = search needs
+
+returns : tie.Need-returns Inv-loop μ-loop
+returns c =
+    let loop′ = c .before .before .before .before .before .loop in
+    let loop-test′ = c .before .before .before .before .loop-test in
+    let node′ = c .before .before .before .node in
+    let stopped = was-fault nodeOf _ _ (sym (ap gotNode (c .before .r .given .1)) ∙ node′ .ensures) in
+    sym (ap (mapped _) (stop _ _ _ _ _ _ _ _ _ _ (loop′ .inv .1) (loop-test′ .taken) _ stopped))
+
+enum-known-n : tie.Need-enum-known-n Inv-loop μ-loop
+enum-known-n c = search needs
+
+cast-list : tie.Need-cast-list Inv-loop μ-loop
+cast-list c = search needs
+
+mul-list : tie.Need-mul-list Inv-loop μ-loop
+mul-list c = omega arith
+
+array-set-from-list : tie.Need-array-set-from-list Inv-loop μ-loop
+array-set-from-list c = omega arith
+
+add-k : tie.Need-add-k Inv-loop μ-loop
+add-k c = omega arith
+
+loop-less : tie.Need-loop-less Inv-loop μ-loop
+loop-less c = omega arith
+
+loop-again : tie.Need-loop-again Inv-loop μ-loop
+loop-again c =
+    let loop′ = c .before .before .before .before .before .loop in
+    let loop-test′ = c .before .before .before .before .loop-test in
+    let node′ = c .before .before .before .node in
+    let w = was nodeOf _ _ _ (sym (ap gotNode (c .before .n .given .1)) ∙ node′ .ensures) in (
+      omega arith,
+      more _ _ _ _ _ _ _ _ _ _ (loop′ .inv .1) _ (loop-test′ .taken) (w .value) _ (w .is)
+          (λ s n h. node-more _ _ _ _ s (w .value) n (w .same) h),
+    )
+
+returns-2 : tie.Need-returns-2 Inv-loop μ-loop
+returns-2 c =
+    let a = c .before .before .before .args in
+    let p = c .before .loop .inv .1 in
+    let e = end _ _ _ _ _ _ _ _ _ _ p (omega arith) in
+    ap (λ l. found l (c .before .loop .place .at)) (p .held)
+    ∙ sym (ap (mapped (λ (ns : List (formula.Node ℕ)). sets (a .others) 0 (map nodeOf ns))) e)
+
+pub all-nodes-spec : {M : Type 1} → statement M
+all-nodes-spec =
+    tie.close
+    (tie.spec
+    Inv-loop
+    μ-loop
+    loop-holds
+    node-requires
+    enum-known-r
+    returns
+    enum-known-n
+    cast-list
+    mul-list
+    array-set-from-list
+    add-k
+    loop-less
+    loop-again
+    returns-2)

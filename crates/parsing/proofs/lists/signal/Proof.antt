@@ -1,0 +1,69 @@
+use mathlib.Core.Path.{sym, ap, _∙_}
+use Rattle.cursor.specs.Answers.{got}
+use Rattle.parsing.proofs.Signals.{signal-stopped, signal-low, signal-high, signal-taken, signal-good}
+use borrow.Author.Needs.{needs}
+use Rattle.parsing.proofs.lists.signal.Statement.{statement}
+use Rattle.parsing.proofs.lists.signal.Tie as tie
+
+number-requires : tie.Need-number-requires
+number-requires c κs = search needs
+
+enum-known-r : tie.Need-enum-known-r
+enum-known-r c = search needs
+
+enum-known-v : tie.Need-enum-known-v
+enum-known-v c = search needs
+
+returns : tie.Need-returns
+returns c =
+    let number′ = c .before .before .before .before .number in
+    let v′ = c .before .before .v in
+    sym (signal-low _ _ _ _ _ _ _ (sym (number′ .ensures) ∙ ap got (v′ .given .1)) (c .if1 .taken))
+
+returns-2 : tie.Need-returns-2
+returns-2 c =
+    let number′ = c .before .before .before .before .before .number in
+    let v′ = c .before .before .before .v in
+    sym (signal-high _ _ _ _ _ _ _ (sym (number′ .ensures) ∙ ap got (v′ .given .1)) (c .before .if1 .left) (c .if2 .taken))
+
+member-requires : tie.Need-member-requires
+member-requires c κs = search needs
+
+returns-3 : tie.Need-returns-3
+returns-3 c =
+    let number′ = c .before .before .before .before .before .before .before .number in
+    let v′ = c .before .before .before .before .before .v in
+    let if1′ = c .before .before .before .if1 in
+    let if2′ = c .before .before .if2 in
+    sym
+    (signal-taken _ _ _ _ _ _ _ (sym (number′ .ensures) ∙ ap got (v′ .given .1)) (if1′ .left) (if2′ .left)
+    (sym (c .before .member .ensures) ∙ c .if3 .taken))
+
+returns-4 : tie.Need-returns-4
+returns-4 c =
+    let number′ = c .before .before .before .number in
+    sym (signal-stopped _ _ _ _ _ _ (sym (number′ .ensures) ∙ ap got (c .before .r .given .1)))
+
+returns-5 : tie.Need-returns-5
+returns-5 c =
+    let number′ = c .before .before .before .before .before .before .before .number in
+    let v′ = c .before .before .before .before .before .v in
+    let if1′ = c .before .before .before .if1 in
+    let if2′ = c .before .before .if2 in
+    sym
+    (signal-good _ _ _ _ _ _ _ (sym (number′ .ensures) ∙ ap got (v′ .given .1)) (if1′ .left) (if2′ .left)
+    (sym (c .before .member .ensures) ∙ c .if3 .left))
+
+pub signal-spec : {M : Type 1} → statement M
+signal-spec =
+    tie.close
+    (tie.spec
+    number-requires
+    enum-known-r
+    enum-known-v
+    returns
+    returns-2
+    member-requires
+    returns-3
+    returns-4
+    returns-5)

@@ -1,0 +1,17 @@
+use mathlib.Core.Path.{refl}
+use borrow.Author.Needs.{needs}
+use Rattle.parsing.proofs.step.refused.Statement.{statement}
+use Rattle.parsing.proofs.step.refused.Tie as tie
+
+empty-requires : tie.Need-empty-requires
+empty-requires c κs = search needs
+
+returns : tie.Need-returns
+returns c = rw (c .empty .ensures) refl
+
+pub refused-spec : {M : Type 1} → statement M
+refused-spec =
+    tie.close
+    (tie.spec
+    empty-requires
+    returns)

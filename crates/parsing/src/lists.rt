@@ -1,0 +1,137 @@
+// Lists of the file, stored in a lent array from an index on.
+use cursor::Cursor;
+use cursor::Read;
+use cursor::Refusal;
+ghost use mathlib.Core.Path.{_≡_};
+ghost use Prim.Native.Nat.{ℕ, _+_, _≤_};
+ghost use lib.ListN.{length};
+ghost use Rattle.meaning.specs.File.Parser.{repeat, listOf, done};
+ghost use Rattle.meaning.specs.File.Grammar.{limits, between, signal, signals, startState, withAll};
+ghost use Rattle.cursor.specs.Answers.{got};
+ghost use Rattle.parsing.specs.Stages.{mapped};
+ghost use Rattle.parsing.specs.Steps.{Stored, moved};
+
+// The place after a list, or why it is refused.
+pub enum Moved {
+    To(Cursor),
+    Stopped(Refusal),
+}
+
+// A listed signal, below w and not below `low`, that is not in the set `taken`.
+fn signal(file: &[u8], from: Cursor, w: u32, taken: u32, low: u32) -> Read
+    requires { ⌜ w ≤ limits .signals ⌝ }
+    ensures { λ r. ⌜ got r ≡ signal limits w taken low (now (file .entry)) (from .at) ⌝ }
+{
+    match from.number(file) {
+        Read::Refused(r) => Read::Refused(r),
+        Read::Number(v, next) => {
+            if v < low {
+                return Read::Refused(Refusal::Order);
+            }
+            if w <= v {
+                return Read::Refused(Refusal::Order);
+            }
+            if words::member(taken, v) {
+                return Read::Refused(Refusal::Driven);
+            }
+            Read::Number(v, next)
+        }
+    }
+}
+
+// So many signals, strictly ascending; answers the set `known` with them besides.
+pub fn signals(
+    file: &[u8],
+    from: Cursor,
+    count: usize,
+    w: u32,
+    taken: u32,
+    known: u32,
+    out: &mut [u32],
+    base: usize,
+) -> Read
+    requires { ⌜ (w ≤ limits .signals) × (base + count ≤ length (now out)) ⌝ }
+    ensures { λ r. ⌜ got r ≡ mapped (withAll known) (signals limits w taken count (now (file .entry)) (from .at)) ⌝ }
+    ensures { λ _. ⌜ Stored (signals limits w taken count (now (file .entry)) (from .at)) (λ vs. vs) base (now (out .entry)) (now (out .exit)) ⌝ }
+{
+    let mut place = from;
+    let mut low: u32 = 0;
+    let mut set = known;
+    let mut i: usize = 0;
+    while i < count {
+        match signal(file, place, w, taken, low) {
+            Read::Refused(r) => {
+                return Read::Refused(r);
+            }
+            Read::Number(v, next) => {
+                out[base + i] = v;
+                set = words::insert(set, v);
+                low = v + 1;
+                place = next;
+            }
+        }
+        i += 1;
+    }
+    Read::Number(set, place)
+}
+
+// So many words from lo to hi.
+pub fn words_between(
+    file: &[u8],
+    from: Cursor,
+    count: usize,
+    lo: u32,
+    hi: u32,
+    out: &mut [u32],
+    base: usize,
+) -> Moved
+    requires { ⌜ base + count ≤ length (now out) ⌝ }
+    ensures { λ r. ⌜ moved r ≡ mapped (λ vs. done) (repeat (between limits lo hi 6) count (now (file .entry)) (from .at)) ⌝ }
+    ensures { λ _. ⌜ Stored (repeat (between limits lo hi 6) count (now (file .entry)) (from .at)) (λ vs. vs) base (now (out .entry)) (now (out .exit)) ⌝ }
+{
+    let mut place = from;
+    let mut i: usize = 0;
+    while i < count {
+        match place.between(file, lo, hi, Refusal::Bits) {
+            Read::Refused(r) => {
+                return Moved::Stopped(r);
+            }
+            Read::Number(v, next) => {
+                out[base + i] = v;
+                place = next;
+            }
+        }
+        i += 1;
+    }
+    Moved::To(place)
+}
+
+// One state of each of n components of these sizes.
+pub fn start(
+    file: &[u8],
+    from: Cursor,
+    n: usize,
+    sizes: [u32; 4],
+    out: &mut [u32],
+    base: usize,
+) -> Moved
+    requires { ⌜ (n ≤ limits .components) × (base + n ≤ length (now out)) ⌝ }
+    ensures { λ r. ⌜ moved r ≡ mapped (λ vs. done) (listOf (startState limits sizes) (λ c v. c + 1) n 0 (now (file .entry)) (from .at)) ⌝ }
+    ensures { λ _. ⌜ Stored (listOf (startState limits sizes) (λ c v. c + 1) n 0 (now (file .entry)) (from .at)) (λ vs. vs) base (now (out .entry)) (now (out .exit)) ⌝ }
+{
+    let mut place = from;
+    let mut c: usize = 0;
+    while c < n {
+        match place.less_than(file, sizes[c], Refusal::Start) {
+            Read::Refused(r) => {
+                return Moved::Stopped(r);
+            }
+            Read::Number(v, next) => {
+                out[base + c] = v;
+                place = next;
+            }
+        }
+        c += 1;
+    }
+    Moved::To(place)
+}

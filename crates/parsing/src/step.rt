@@ -1,0 +1,34 @@
+// What is read so far.
+use super::Outcome;
+use cursor::Cursor;
+use cursor::Refusal;
+use instrument::Instrument;
+ghost use mathlib.Core.Path.{_≡_};
+ghost use Rattle.parsing.specs.Steps.{refusedStep, acceptedStep};
+
+// The instrument of what is read so far and the place reached, or why the file is refused.
+pub struct Step {
+    pub outcome: Outcome,
+    pub at: usize,
+    pub instrument: Instrument,
+}
+
+pub fn refused(r: Refusal) -> Step
+    ensures { λ p. ⌜ p ≡ refusedStep r ⌝ }
+{
+    Step {
+        outcome: Outcome::Refused(r),
+        at: 0,
+        instrument: Instrument::empty(),
+    }
+}
+
+pub fn accepted(next: Cursor, instrument: Instrument) -> Step
+    ensures { λ p. ⌜ p ≡ acceptedStep next instrument ⌝ }
+{
+    Step {
+        outcome: Outcome::Accepted,
+        at: next.at,
+        instrument,
+    }
+}
