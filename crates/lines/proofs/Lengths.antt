@@ -31,6 +31,9 @@ words-short ws = join-short 11 (length ws) (λ i. wordAt i (getD ws i 0)) (λ i 
 pub words-line-short : (ws : List ℕ) → length (wordsLine ws) ≤ 11 * length ws + 1
 words-line-short ws = omega (arith, length-append (words ws) lineEnd, words-short ws)
 
+pub words-line-some : (ws : List ℕ) → 1 ≤ length (wordsLine ws)
+words-line-some ws = omega (arith, length-append (words ws) lineEnd)
+
 pub mark-short : (c k pass fail : ℕ) → length (markLine c k pass fail) ≤ 69
 mark-short c k pass fail =
     omega (
