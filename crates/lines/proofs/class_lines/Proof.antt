@@ -64,7 +64,7 @@ names-text-requires c κs =
     let l = c .before .before in
     let s = l .before .before .before in
     let n = l .loop .from + getD (s .args .t1) (l .loop .c) 0 - l .loop .from in
-    omega (arith, length-take n (drop (l .loop .from) (s .args .names .now)), s .pre .0 .few (l .loop .c) (c .before .loop-test .taken))
+    omega (arith, length-take n (drop (l .loop .from) (s .args .names .now)), s .pre .0 .few (l .loop .c) (omega (arith, c .before .loop-test .taken)))
 
 -- the text is the line of component c
 made : (c : tie.After-names-text Inv-loop μ-loop)
@@ -76,7 +76,7 @@ made c =
     let s = l .before .before .before in
     let n = l .loop .from + getD (s .args .t1) (l .loop .c) 0 - l .loop .from in
     named (s .args .t1) (s .args .names .now) (s .pre .0) (l .loop .c) (l .loop .from) n (c .names-text .result)
-    (c .before .before .loop-test .taken) (s .pre .1) (l .loop .inv .begins) (omega arith) (c .names-text .ensures)
+    (omega (arith, c .before .before .loop-test .taken)) (s .pre .1) (l .loop .inv .begins) (omega arith) (c .names-text .ensures)
 
 append-requires : tie.Need-append-requires Inv-loop μ-loop
 append-requires c κs =
