@@ -2,10 +2,10 @@
 use mathlib.Core.Path.{_≡_, ap}
 use mathlib.Core.List.{List}
 use lib.ListN.{length, drop, replicate, length-append, length-replicate, length-take, length-drop, List·getD-eq-default}
-use lib.Seq.{sets, length-sets}
+use lib.Seq.{length-sets}
 use native.Mathlib.Omega.{arith}
 use native.Mathlib.Decide.{decLt}
-use Prim.Native.Nat.{ℕ, _-_, _≤_, _<_}
+use Prim.Native.Nat.{ℕ, _-_, _≤_}
 use Rattle.meaning.specs.File.Grammar.{Contents, limits}
 use Rattle.meaning.specs.File.Promise.{noComponent}
 use Rattle.meaning.proofs.File.Accepted.{promised-at}

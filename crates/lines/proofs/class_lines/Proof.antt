@@ -4,7 +4,7 @@ use native.Mathlib.Omega.{arith}
 use lib.ListN.{length, getD, drop, length-take}
 use Prim.Native.Nat.{_+_, _-_, _≤_}
 use borrow.Author.Needs.{needs}
-use Rattle.answers.specs.Lines.{namesBefore, namesLineAt}
+use Rattle.answers.specs.Lines.{namesLineAt}
 use Rattle.report.specs.Report.{Spelled}
 use Rattle.lines.specs.Progress.{Naming}
 use Rattle.lines.proofs.Lengths.{names-lines-short}

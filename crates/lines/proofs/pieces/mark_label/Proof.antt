@@ -1,6 +1,5 @@
 use native.Mathlib.Omega.{arith}
 use borrow.Author.Needs.{needs}
-use lib.ListN.{length}
 use Rattle.text.proofs.Texts.{then, decimal-length}
 use Rattle.report.proofs.Parts.{empty-count, from-empty}
 use Rattle.lines.proofs.pieces.mark_label.Statement.{statement}

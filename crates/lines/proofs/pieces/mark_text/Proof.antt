@@ -1,11 +1,6 @@
-use mathlib.Core.Path.{_≡_, ap}
-use mathlib.Core.List.{List, _++_}
 use native.Mathlib.Omega.{arith}
-use lib.ListN.{length, length-append}
-use Prim.Native.Nat.{ℕ, _≤_}
+use Prim.Native.Nat.{_≤_}
 use borrow.Author.Needs.{needs}
-use Rattle.answers.specs.Listing.{decimal, componentLabel}
-use Rattle.answers.specs.Lines.{nodeLabel}
 use Rattle.text.proofs.Texts.{then, decimal-length}
 use Rattle.lines.proofs.Lengths.{mark-label-short}
 use Rattle.lines.proofs.Parts.{after-label}
