@@ -1,3 +1,4 @@
 pub mod Outcomes
 pub mod Listing
+pub mod Lines
 pub mod Means

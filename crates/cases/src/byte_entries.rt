@@ -101,10 +101,10 @@ fn long(file: &[u8], asked: ByteQuestion, n: usize, exact: &[u8])
 
 // The answer's own lines, from its n entries.
 fn lines(file: &[u8], asked: ByteQuestion, entries: &[u8], n: usize)
-    requires { ⌜ n ≤ length (now entries) ⌝ }
+    requires { ⌜ (n ≤ 4099) × (4099 ≤ length (now entries)) ⌝ }
 {
     match asked {
-        ByteQuestion::Classes => printing::class_lines(file, entries, n),
+        ByteQuestion::Classes => printing::class_lines(file, entries),
         ByteQuestion::Listing => printing::first_bytes(entries, n),
     }
 }

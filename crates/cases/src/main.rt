@@ -10,9 +10,12 @@ mod word_entries; // word_entries.rt: questions whose entries are words
 use byte_entries::ByteQuestion;
 use word_entries::WordQuestion;
 ghost use Prim.Native.Nat.{_≤_};
+ghost use lib.ListN.{length};
 ghost use Rattle.io.specs.Counts.{Counts};
 
-fn print_case(name: &[u8], file: &[u8], states: &[u8]) {
+fn print_case(name: &[u8], file: &[u8], states: &[u8])
+    requires { ⌜ length (now file) ≤ 16385 ⌝ }
+{
     printing::text(b"case ");
     printing::text(name);
     printing::line_end();

@@ -2,21 +2,13 @@
 ghost use Prim.Native.Nat.{_+_, _≤_};
 ghost use lib.ListN.{length};
 
-fn spaced(v: u32) {
-    printing::text(b" ");
-    printing::decimal(v as u64);
-}
-
 // "lookup 0 1 0 0 true".
 fn lookup(file: &[u8], s0: u32, s1: u32, s2: u32, s3: u32) {
-    printing::text(b"lookup");
-    spaced(s0);
-    spaced(s1);
-    spaced(s2);
-    spaced(s3);
+    let asked = [s0, s1, s2, s3];
+    printing::text(b"lookup ");
+    printing::numbers(&asked);
     printing::text(b" ");
-    printing::looked(queries::lookup(file, s0, s1, s2, s3));
-    printing::line_end();
+    printing::lookup_line(queries::lookup(file, s0, s1, s2, s3));
 }
 
 fn wide(b: u8) -> u64
@@ -67,21 +59,24 @@ pub(crate) fn lookups(file: &[u8], states: &[u8]) {
 // "verdict holds marks".
 pub(crate) fn verdict(file: &[u8]) {
     printing::text(b"verdict ");
-    printing::judged(queries::verdict(file));
-    printing::line_end();
+    printing::verdict_line(queries::verdict(file));
 }
 
 // "stretch 0 03000100".
-fn stretch(file: &[u8], c: u32) {
-    printing::text(b"stretch");
-    spaced(c);
+fn stretch(file: &[u8], c: u32)
+    requires { ⌜ length (now file) ≤ 16385 ⌝ }
+{
+    let asked = [c];
+    printing::text(b"stretch ");
+    printing::numbers(&asked);
     printing::text(b" ");
-    printing::stretch(file, c);
-    printing::line_end();
+    printing::stretch_line(file, c);
 }
 
 // Every component, the number after the last, and the largest number. A refused file has no component.
-pub(crate) fn stretches(file: &[u8]) {
+pub(crate) fn stretches(file: &[u8])
+    requires { ⌜ length (now file) ≤ 16385 ⌝ }
+{
     let reading = reader::read(file);
     let t = reading.instrument;
     let n = t.components;

@@ -108,14 +108,14 @@ fn long(file: &[u8], asked: WordQuestion, n: usize, exact: &[u32])
 
 // The answer's own lines, from its n entries.
 fn lines(file: &[u8], asked: WordQuestion, entries: &[u32], n: usize)
-    requires { ⌜ n ≤ length (now entries) ⌝ }
+    requires { ⌜ (n ≤ 4099) × (4099 ≤ length (now entries)) ⌝ }
 {
     match asked {
         WordQuestion::Full => {
             printing::text(b"full ");
             printing::words_line(entries, n);
         }
-        WordQuestion::Marks => printing::mark_lines(file, entries, n),
+        WordQuestion::Marks => printing::mark_lines(file, entries),
         WordQuestion::Merged => {
             printing::text(b"merged ");
             printing::words_line(entries, n);

@@ -5,6 +5,8 @@
 use libc::STDIN_FILENO;
 use queries::Written;
 use question::Question;
+ghost use Prim.Native.Nat.{_≤_};
+ghost use lib.ListN.{length};
 
 mod question; // question.rt: what the arguments ask
 
@@ -35,7 +37,7 @@ fn marks(file: &[u8]) {
     let mut words = [0u32; 192];
     match queries::mark_words(file, &mut words) {
         Written::Refused(r) => printing::refusal_line(r),
-        Written::Entries(n) => printing::mark_lines(file, &words, n),
+        Written::Entries(_) => printing::mark_lines(file, &words),
     }
 }
 
@@ -44,26 +46,21 @@ fn classes(file: &[u8]) {
     let mut names = [0u8; 128];
     match queries::class_names(file, &mut names) {
         Written::Refused(r) => printing::refusal_line(r),
-        Written::Entries(n) => printing::class_lines(file, &names, n),
+        Written::Entries(_) => printing::class_lines(file, &names),
     }
 }
 
 fn lookup(file: &[u8], s0: u32, s1: u32, s2: u32, s3: u32) {
-    printing::looked(queries::lookup(file, s0, s1, s2, s3));
-    printing::line_end();
+    printing::lookup_line(queries::lookup(file, s0, s1, s2, s3));
 }
 
 fn verdict(file: &[u8]) {
-    printing::judged(queries::verdict(file));
-    printing::line_end();
+    printing::verdict_line(queries::verdict(file));
 }
 
-fn stretch(file: &[u8], component: u32) {
-    printing::stretch(file, component);
-    printing::line_end();
-}
-
-fn answer(file: &[u8], asked: Question) {
+fn answer(file: &[u8], asked: Question)
+    requires { ⌜ length (now file) ≤ 16385 ⌝ }
+{
     match asked {
         Question::Full => full(file),
         Question::Marks => marks(file),
@@ -71,7 +68,7 @@ fn answer(file: &[u8], asked: Question) {
         Question::Merged => merged(file),
         Question::Lookup(s0, s1, s2, s3) => lookup(file, s0, s1, s2, s3),
         Question::Verdict => verdict(file),
-        Question::Stretch(c) => stretch(file, c),
+        Question::Stretch(c) => printing::stretch_line(file, c),
         Question::Nothing => usage(),
     }
 }

@@ -12,10 +12,9 @@ use Rattle.meaning.proofs.Basic.Entries.{list-length, list-at, list-same, lent-
 use Rattle.answers.specs.Outcomes.{Judgement}
 use Rattle.answers.specs.Listing.{refusalLine, listingText}
 use Rattle.instrument.proofs.Rows.{filled-at}
-use Rattle.partitions.specs.Progress.{namesIn}
 use Rattle.text.specs.declared.Text.{Text}
 use Rattle.text.specs.Texts.{textOf}
-use Rattle.report.specs.Report.{Spelled}
+use Rattle.report.specs.Report.{Spelled, bytesIn}
 use Rattle.report.proofs.Lengths.{refusal-line-short, listing-length}
 
 -- a list is its entries
@@ -32,14 +31,14 @@ spelled-bytes : (text : Text) (l : List ℕ) → Spelled text l → text .bytes 
 unfolding textOf
 spelled-bytes text l s = ap (λ t. t .bytes) (s .same)
 
-spelled-list : (text : Text) (l : List ℕ) → Spelled text l → listBelow (text .count) (λ x. getD (text .bytes) x 0) ≡ l
+pub spelled-list : (text : Text) (l : List ℕ) → Spelled text l → bytesIn text ≡ l
 spelled-list text l s =
     rw (spelled-count text l s, spelled-bytes text l s)
     (list-same (length l) (λ x. getD (sets (replicate 2048 0) 0 l) x 0) (λ x. getD l x 0) (λ x h. filled-at 0 2048 l (s .short) x)
     ∙ list-of l)
 
 pub copied : (text : Text) (l : List ℕ) → Spelled text l → (old : List ℕ) → text .count ≤ length old
-    → sets old 0 (namesIn (text .bytes) (text .count)) ≡ lentAfter (entries l) old
+    → sets old 0 (bytesIn text) ≡ lentAfter (entries l) old
 copied text l s old h =
     ap (λ vs. sets old 0 vs) (spelled-list text l s) ∙ lent-sets l old (omega (arith, spelled-count text l s))
 

@@ -6,7 +6,7 @@ use lib.ListN.{length, getD}
 use Prim.Native.Nat.{ℕ, _≤_}
 use Rattle.meaning.specs.Verdict.{Verdict, Stage, holds, fails, marks, merged}
 use Rattle.meaning.specs.File.Grammar.{Contents, instrumentOf}
-use Rattle.meaning.specs.Reference.Answers.{joinBelow, fullCount, mergedSize}
+use Rattle.meaning.specs.Reference.Answers.{listBelow, joinBelow, fullCount, mergedSize}
 use Rattle.answers.specs.Outcomes.{Judgement}
 use Rattle.answers.specs.Listing.{decimal, space, classLine}
 use Rattle.instrument.specs.declared.Instrument.{Instrument}
@@ -41,6 +41,10 @@ pub record Listed (t : Instrument) (names : List (List ℕ)) (size full : ℕ) (
   pub named : names ≡ classesOf (instrumentOf k)
   pub mergedIs : size ≡ mergedSize (instrumentOf k)
   pub fullIs : full ≡ fullCount (instrumentOf k)
+
+-- the bytes of a text
+abbrev pub bytesIn : Text → List ℕ
+bytesIn text = listBelow (text .count) (λ x. getD (text .bytes) x 0)
 
 -- the text is these bytes, and they fit in it
 pub record Spelled (text : Text) (l : List ℕ) : Type 0 where

@@ -1,13 +1,14 @@
 // The text of the listing program, and its copy into a lent buffer (document 01, Verdict and listing).
 ghost use mathlib.Core.Path.{_≡_};
 ghost use mathlib.Core.List.{List};
-ghost use Prim.Native.Nat.{ℕ, _≤_};
+ghost use Prim.Native.Nat.{ℕ, _+_, _≤_};
 ghost use lib.ListN.{length};
+ghost use lib.Seq.{sets};
 ghost use Rattle.meaning.specs.File.Grammar.{Contents, instrumentOf};
 ghost use Rattle.meaning.specs.Reference.Answers.{entries, lentAfter};
 ghost use Rattle.answers.specs.Listing.{listingText, refusalLine};
 ghost use Rattle.text.specs.Texts.{textOf};
-ghost use Rattle.report.specs.Report.{judgementFrom, Listed, Spelled};
+ghost use Rattle.report.specs.Report.{judgementFrom, Listed, Spelled, bytesIn};
 
 pub mod lines; // lines.rt: each line
 
@@ -44,16 +45,26 @@ pub fn refusal_text(number: u32) -> Text
     refusal_line(empty, number)
 }
 
-// The bytes of a text copied to the front of a buffer.
-pub fn copy_text(text: Text, out: &mut [u8])
-    requires { ⌜ ((l : List ℕ) × Spelled text l) × (text .count ≤ length (now out)) ⌝ }
-    ensures { λ _. ⌜ ((l : List ℕ) → Spelled text l → now (out .exit) ≡ lentAfter (entries l) (now (out .entry))) ⌝ }
+// The bytes of a text copied into a buffer from a place on; the place after them.
+pub fn append(text: Text, out: &mut [u8], at: usize) -> usize
+    requires { ⌜ (text .count ≤ 2048) × (at + text .count ≤ length (now out)) ⌝ }
+    ensures { λ r. ⌜ r ≡ at + text .count ⌝ }
+    ensures { λ _. ⌜ now (out .exit) ≡ sets (now (out .entry)) at (bytesIn text) ⌝ }
 {
     let bytes = text.bytes;
     let n = text.count;
     let mut i: usize = 0;
     while i < n {
-        out[i] = bytes[i];
+        out[at + i] = bytes[i];
         i += 1;
     }
+    at + n
+}
+
+// The bytes of a text copied to the front of a buffer.
+pub fn copy_text(text: Text, out: &mut [u8])
+    requires { ⌜ ((l : List ℕ) × Spelled text l) × (text .count ≤ length (now out)) ⌝ }
+    ensures { λ _. ⌜ ((l : List ℕ) → Spelled text l → now (out .exit) ≡ lentAfter (entries l) (now (out .entry))) ⌝ }
+{
+    append(text, out, 0);
 }

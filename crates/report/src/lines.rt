@@ -1,10 +1,12 @@
 // The lines of the listing, each put at the end of a text (document 01, Verdict and listing). The specs of crate `answers` define their bytes.
 ghost use mathlib.Core.List.{_++_};
 ghost use Prim.Native.Nat.{_+_, _≤_, _<_};
-ghost use lib.ListN.{getD};
+ghost use lib.ListN.{length, getD};
 ghost use Rattle.meaning.specs.File.Grammar.{Contents};
 ghost use Rattle.answers.specs.Listing.{decimal, space, lineEnd, verdictWord, stageWord, componentLabel, classesLabel, mergedLabel, ofLabel};
 ghost use Rattle.answers.specs.Listing.{verdictLine, classLine, sizeLine, refusalLine};
+ghost use Rattle.answers.specs.Outcomes.{given};
+ghost use Rattle.answers.specs.Lines.{judgementLine};
 ghost use Rattle.instrument.specs.Described.{Describes};
 ghost use Rattle.text.specs.Texts.{Holds};
 ghost use Rattle.report.specs.Report.{verdictFrom, stageFrom, judgementFrom, spacedNames, classLines};
@@ -42,14 +44,22 @@ fn stage_end(text: Text, by_marks: bool) -> Text
     stage_word(spaced, by_marks).word(b"\n")
 }
 
+// "fails marks".
+pub fn judgement_line(text: Text, holds: bool, by_marks: bool) -> Text
+    requires { ⌜ text .count + 13 ≤ 2048 ⌝ }
+    ensures { λ r. ⌜ Holds text r (judgementLine (given (judgementFrom holds «by_marks»))) ⌝ }
+{
+    let judged = verdict_word(text, holds);
+    stage_end(judged, by_marks)
+}
+
 // "verdict fails marks".
 pub fn verdict_line(text: Text, holds: bool, by_marks: bool) -> Text
     requires { ⌜ text .count + 21 ≤ 2048 ⌝ }
     ensures { λ r. ⌜ Holds text r (verdictLine (judgementFrom holds «by_marks»)) ⌝ }
 {
     let label = text.word(b"verdict ");
-    let judged = verdict_word(label, holds);
-    stage_end(judged, by_marks)
+    judgement_line(label, holds, by_marks)
 }
 
 // A class name after a space.
@@ -61,13 +71,13 @@ fn spaced_name(text: Text, name: u8) -> Text
 }
 
 // The class names of a component's states.
-fn spaced_names(text: Text, names: [u8; 32], states: usize) -> Text
-    requires { ⌜ (states ≤ 32) × (text .count + 352 ≤ 2048) ⌝ }
-    ensures { λ r. ⌜ Holds text r (spacedNames states (λ x. getD names x 0)) ⌝ }
+fn spaced_names(text: Text, names: &[u8]) -> Text
+    requires { ⌜ (length (now names) ≤ 32) × (text .count + 352 ≤ 2048) ⌝ }
+    ensures { λ r. ⌜ Holds text r (spacedNames (length (now (names .entry))) (λ x. getD (now (names .entry)) x 0)) ⌝ }
 {
     let mut result = text;
     let mut x: usize = 0;
-    while x < states {
+    while x < names.len() {
         result = spaced_name(result, names[x]);
         x += 1;
     }
@@ -85,12 +95,12 @@ fn class_label(text: Text, c: u32) -> Text
 }
 
 // "component 0 classes 0 0 2".
-pub fn class_line(text: Text, c: u32, names: [u8; 32], states: usize) -> Text
-    requires { ⌜ (states ≤ 32) × (text .count + 381 ≤ 2048) ⌝ }
-    ensures { λ r. ⌜ Holds text r (classLine c states (λ x. getD names x 0)) ⌝ }
+pub fn class_line(text: Text, c: u32, names: &[u8]) -> Text
+    requires { ⌜ (length (now names) ≤ 32) × (text .count + 381 ≤ 2048) ⌝ }
+    ensures { λ r. ⌜ Holds text r (classLine c (length (now (names .entry))) (λ x. getD (now (names .entry)) x 0)) ⌝ }
 {
     let label = class_label(text, c);
-    let named = spaced_names(label, names, states);
+    let named = spaced_names(label, names);
     named.word(b"\n")
 }
 
@@ -100,7 +110,7 @@ fn component_line(text: Text, t: Instrument, names: [u8; 32], c: usize) -> Text
     ensures { λ r. ⌜ Holds text r (classLine c (getD (t .states) c 0) (λ x. getD names x 0)) ⌝ }
 {
     let states = t.states[c] as usize;
-    class_line(text, c as u32, names, states)
+    class_line(text, c as u32, &names[0..states])
 }
 
 // The class lines of all components.

@@ -1,5 +1,5 @@
 use native.Mathlib.Omega.{arith}
-use lib.ListN.{getD, length-append}
+use lib.ListN.{length, getD, length-append}
 use borrow.Author.Needs.{needs}
 use Rattle.text.proofs.Texts.{then, decimal-length}
 use Rattle.answers.specs.Listing.{decimal, componentLabel, classesLabel}
@@ -13,7 +13,7 @@ class-label-requires c κs = search needs
 
 spaced-names-requires : tie.Need-spaced-names-requires
 spaced-names-requires c κs =
-    let s = c .before in (
+    let s = c .before .before in (
       s .pre .0,
       omega (arith, s .pre .1, c .class-label .ensures .count, decimal-length (s .args .c), length-append (decimal (s .args .c)) classesLabel),
     )
@@ -23,7 +23,7 @@ slice-aggregate-word c = search needs
 
 word-requires : tie.Need-word-requires
 word-requires c κs =
-    let s = c .before .before .before in
+    let s = c .before .before .before .before in
     omega (
       arith,
       s .pre .0,
@@ -32,12 +32,12 @@ word-requires c κs =
       decimal-length (s .args .c),
       length-append (decimal (s .args .c)) classesLabel,
       c .before .spaced-names .ensures .count,
-      names-short (s .args .states) (λ x. getD (s .args .names) x 0),
+      names-short (length (s .args .names .now)) (λ x. getD (s .args .names .now) x 0),
     )
 
 returns : tie.Need-returns
 returns c =
-    let s = c .before .before .before .before in
+    let s = c .before .before .before .before .before in
     then-after componentLabel (decimal (s .args .c)) classesLabel (c .before .before .before .class-label .ensures)
     (then (c .before .before .spaced-names .ensures) (c .word .ensures))
 

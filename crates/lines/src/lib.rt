@@ -1,0 +1,104 @@
+// The lines that the programs print, as bytes: in a lent buffer, or by value where there is one line alone. The specs of crate `answers` define
+// them (specs/Lines).
+mod pieces; // pieces.rt: each word, each line as a text
+
+ghost use mathlib.Core.Path.{_≡_};
+ghost use Prim.Native.Nat.{_+_, _*_, _≤_, _<_};
+ghost use lib.ListN.{length};
+ghost use Rattle.answers.specs.Outcomes.{given};
+ghost use Rattle.answers.specs.Lines.{wordsLine, markLines, namesLines, hexadecimalLine, lookupLine, judgementLine};
+ghost use Rattle.text.specs.Texts.{textOf};
+ghost use Rattle.report.specs.Report.{judgementFrom};
+ghost use Rattle.lines.specs.Made.{Made, FewStates};
+use pieces::byte_text;
+use pieces::mark_text;
+use pieces::names_text;
+use pieces::word_text;
+use report::append;
+use report::lines::judgement_line;
+use text::Text;
+
+// Words in decimal with one space between.
+pub fn words_line(words: &[u32], out: &mut [u8]) -> usize
+    requires { ⌜ 11 * length (now words) + 1 ≤ length (now out) ⌝ }
+    ensures { λ r. ⌜ Made (wordsLine (now (words .entry))) r (now (out .entry)) (now (out .exit)) ⌝ }
+{
+    let mut at: usize = 0;
+    let mut i: usize = 0;
+    while i < words.len() {
+        let word = word_text(i, words[i]);
+        at = append(word, out, at);
+        i += 1;
+    }
+    out[at] = b'\n';
+    at + 1
+}
+
+// A line for every two words, PASS and FAIL of a component and a node, where each component has so many nodes.
+pub fn mark_lines(nodes: usize, marks: &[u32], out: &mut [u8]) -> usize
+    requires { ⌜ (0 < nodes) × (length (now marks) ≤ 192) × (6624 ≤ length (now out)) ⌝ }
+    ensures { λ r. ⌜ Made (markLines nodes (now (marks .entry))) r (now (out .entry)) (now (out .exit)) ⌝ }
+{
+    let n = marks.len() / 2;
+    let mut at: usize = 0;
+    let mut j: usize = 0;
+    while j < n {
+        let line = mark_text(j / nodes, j % nodes, marks[2 * j], marks[2 * j + 1]);
+        at = append(line, out, at);
+        j += 1;
+    }
+    at
+}
+
+// A line for every component that has states, from the state counts and the names of all states.
+pub fn class_lines(states: [u32; 4], names: &[u8], out: &mut [u8]) -> usize
+    requires { ⌜ FewStates states × (128 ≤ length (now names)) × (1524 ≤ length (now out)) ⌝ }
+    ensures { λ r. ⌜ Made (namesLines states (now (names .entry))) r (now (out .entry)) (now (out .exit)) ⌝ }
+{
+    let mut at: usize = 0;
+    let mut from: usize = 0;
+    let mut c: usize = 0;
+    while c < 4 {
+        let end = from + states[c] as usize;
+        let line = names_text(c as u32, &names[from..end]);
+        at = append(line, out, at);
+        from = end;
+        c += 1;
+    }
+    at
+}
+
+// Each byte as two hexadecimal digits.
+pub fn hexadecimal_line(bytes: &[u8], out: &mut [u8]) -> usize
+    requires { ⌜ 2 * length (now bytes) + 1 ≤ length (now out) ⌝ }
+    ensures { λ r. ⌜ Made (hexadecimalLine (now (bytes .entry))) r (now (out .entry)) (now (out .exit)) ⌝ }
+{
+    let mut at: usize = 0;
+    let mut i: usize = 0;
+    while i < bytes.len() {
+        let digits = byte_text(bytes[i]);
+        at = append(digits, out, at);
+        i += 1;
+    }
+    out[at] = b'\n';
+    at + 1
+}
+
+// The line of a lookup that is answered: "true" or "false".
+pub fn truth_line(truth: bool) -> Text
+    ensures { λ r. ⌜ r ≡ textOf (lookupLine (given truth)) ⌝ }
+{
+    let empty = Text::empty();
+    if truth {
+        return empty.word(b"true\n");
+    }
+    empty.word(b"false\n")
+}
+
+// The line of a verdict that is given: "holds marks" and the like.
+pub fn verdict_line(holds: bool, by_marks: bool) -> Text
+    ensures { λ r. ⌜ r ≡ textOf (judgementLine (given (judgementFrom holds «by_marks»))) ⌝ }
+{
+    let empty = Text::empty();
+    judgement_line(empty, holds, by_marks)
+}
