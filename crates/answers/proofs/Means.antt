@@ -1,11 +1,10 @@
 -- The entries of an accepted answer mean what specs/Means says, of any instrument that the reader accepts.
-use mathlib.Core.Path.{_≡_, refl, sym, subst, ap, _∙_}
+use mathlib.Core.Path.{_≡_, refl, sym, subst, _∙_}
 use mathlib.Core.Logic.{_↔_, _≢_}
 use mathlib.Core.Bool.{Bool, _&&_}
 use mathlib.Core.List.{List, [], _∷_}
 use lib.Dec.{T}
 use lib.ListN.{length, getD, length-append}
-use native.Mathlib.Nat.{mul-comm, mul-right-comm}
 use native.Mathlib.Omega.{arith}
 use Prim.Native.Nat.{ℕ, zero, suc, _+_, _*_, _≤_, _<_}
 use Rattle.words.specs.Sets.{has, built}
@@ -14,7 +13,7 @@ use Rattle.meaning.specs.Table.{Table, Total}
 use Rattle.meaning.specs.Formula.{Formula}
 use Rattle.meaning.specs.Nodes.{formulaAt, Beneath}
 use Rattle.meaning.specs.Instrument.{Instrument, Accepted, components, table, rootNode, rootFormula, Partner}
-use Rattle.meaning.specs.Combination.{State, Truth, high, count, index}
+use Rattle.meaning.specs.Combination.{State, Truth, high, index}
 use Rattle.meaning.specs.View.{View, wholeWords}
 use Rattle.meaning.specs.Marks.{Pass, Fail}
 use Rattle.meaning.specs.Relation.{Rel}

@@ -1,35 +1,33 @@
 -- The lookup and the verdict on the numbers that a file or a caller writes: asked numbers and starts as combined states.
-use mathlib.Core.Path.{_≡_, refl, sym, subst, ap, ap₂, _∙_}
+use mathlib.Core.Path.{_≡_, refl, subst, ap, ap₂, _∙_}
 use mathlib.Core.Logic.{_↔_}
-use mathlib.Core.Bool.{Bool, true, false, _&&_, _||_}
+use mathlib.Core.Bool.{Bool, _&&_, _||_}
 use mathlib.Core.List.{List, [], _∷_}
-use lib.Dec.{T, leb, ltb, eqb, ltb→lt, lt→ltb}
-use lib.ListN.{length, getD}
+use lib.Dec.{T, leb}
+use lib.ListN.{getD}
 use native.Mathlib.Nat.{mod-lt, mod-eq-of-lt}
-use native.Mathlib.Omega.{arith}
 use Prim.Native.Nat.{ℕ, _%_, _≤_, _<_}
 use Rattle.meaning.specs.Tests.{All}
 use Rattle.meaning.specs.Table.{Table}
 use Rattle.meaning.specs.Formula.{Formula}
-use Rattle.meaning.specs.Instrument.{Instrument, Accepted, IsStart, components, table, rootFormula}
+use Rattle.meaning.specs.Instrument.{Instrument, Accepted, components, table, rootFormula}
 use Rattle.meaning.specs.Combination.{State, Truth, high}
 use Rattle.meaning.specs.View.{View, wholeWords}
 use Rattle.meaning.specs.Classes.{classNumber}
-use Rattle.meaning.specs.Merged.{mergedIndex, mergedSizes, classNumbers}
-use Rattle.meaning.specs.Verdict.{Answer, Right, HasPass, HasFail, judged, clash, oversized}
-use Rattle.meaning.specs.File.Number.{choose}
+use Rattle.meaning.specs.Merged.{mergedSizes, classNumbers}
+use Rattle.meaning.specs.Verdict.{Right, HasPass, HasFail, judged}
 use Rattle.meaning.specs.Reference.Answers.{classesAt, mergedSize}
-use Rattle.meaning.specs.Reference.Tests.{allBelow, allOf, anyOf}
+use Rattle.meaning.specs.Reference.Tests.{allOf, anyOf}
 use Rattle.meaning.specs.Reference.Marks.{passB, failB}
 use Rattle.meaning.specs.Reference.Merged.{lookupB, mergedB}
-use Rattle.meaning.specs.Reference.Verdict.{answerB, staged, hasPassB, hasFailB, verdictB}
-use Rattle.meaning.proofs.Basic.Bounded.{any-same, all-out}
+use Rattle.meaning.specs.Reference.Verdict.{answerB, hasPassB, hasFailB, verdictB}
+use Rattle.meaning.proofs.Basic.Bounded.{any-same}
 use Rattle.meaning.proofs.Basic.Lists.{all-map}
 use Rattle.meaning.proofs.Meaning.Index.{index-same}
 use Rattle.meaning.proofs.Claims.{lookup-01}
 use Rattle.meaning.proofs.Demands.{verdict-right}
 use Rattle.meaning.proofs.Marks.Signals.{whole-fit}
-use Rattle.answers.specs.Outcomes.{asksState, lookedUp, verdictOf, judgement, Judgement, Reply, given, denied}
+use Rattle.answers.specs.Outcomes.{lookedUp, verdictOf, Judgement}
 use Rattle.answers.specs.Means.{LookupMeans, VerdictMeans}
 
 -- tests that agree on the members of a list

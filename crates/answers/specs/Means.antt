@@ -12,7 +12,7 @@ use Rattle.meaning.specs.Table.{Table}
 use Rattle.meaning.specs.Formula.{Formula}
 use Rattle.meaning.specs.Nodes.{formulaAt, Beneath}
 use Rattle.meaning.specs.Instrument.{Instrument, components, table, rootNode, rootFormula, Partner}
-use Rattle.meaning.specs.Combination.{State, Truth, high, count, index}
+use Rattle.meaning.specs.Combination.{State, Truth, high, index}
 use Rattle.meaning.specs.View.{View, wholeWords}
 use Rattle.meaning.specs.Marks.{Pass, Fail}
 use Rattle.meaning.specs.Relation.{Rel}

@@ -1,6 +1,6 @@
 -- What each question is answered, from the bytes of a file: the faults of the file come first, then an asked state, then numbers 11 and 12, then
 -- 13 (document 01, Refused).
-use mathlib.Core.Bool.{Bool, true, false, _&&_}
+use mathlib.Core.Bool.{Bool}
 use mathlib.Core.List.{List}
 use lib.Dec.{leb, ltb, eqb}
 use lib.ListN.{length, getD}

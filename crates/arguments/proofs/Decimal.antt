@@ -1,7 +1,7 @@
 -- Reading decimal digits one after the other.
 use mathlib.Core.Path.{_≡_, refl, sym, subst, ap, _∙_}
 use mathlib.Core.Logic.{inl, inr}
-use mathlib.Core.Bool.{Bool, true, false, _&&_, cond}
+use mathlib.Core.Bool.{Bool, true, _&&_}
 use mathlib.Core.List.{List}
 use lib.Dec.{T, leb, leb→le, le→leb}
 use lib.ListN.{length, getD}
@@ -11,7 +11,6 @@ use Prim.Native.Nat.{ℕ, zero, suc, _+_, _-_, _*_, _^_, _≤_, _<_}
 use Rattle.meaning.specs.Reference.Tests.{allBelow}
 use Rattle.meaning.proofs.Basic.Booleans.{and-in, and-l, and-r, is-true, is-false}
 use Rattle.meaning.proofs.Basic.Bounded.{all-out, last-or}
-use Rattle.arguments.specs.declared.Argument.{Argument}
 use Rattle.arguments.specs.declared.Argument.the-variants.{Number, Unusable}
 use Rattle.arguments.specs.Decimal.{digitAt, valueOf, usable, argumentOf, Digits}
 

@@ -1,6 +1,5 @@
 -- How an answer is made: from what the reader found, then from sizes and room. The laws serve every question that lends a buffer.
-use mathlib.Core.Path.{_≡_, refl, sym, subst, ap, _∙_}
-use mathlib.Core.Logic.{_≢_}
+use mathlib.Core.Path.{_≡_, refl, sym, subst, ap}
 use mathlib.Core.Bool.{Bool, true, false}
 use mathlib.Core.List.{List}
 use lib.Dec.{leb}
@@ -12,7 +11,7 @@ use Rattle.meaning.specs.Instrument.{Instrument, Accepted}
 use Rattle.meaning.specs.File.Parser.{Got, found, fault}
 use Rattle.meaning.specs.File.Number.{choose}
 use Rattle.meaning.specs.File.Grammar.{Contents, instrumentOf, readFile}
-use Rattle.meaning.specs.Reference.Answers.{Outcome, refused, entries, outcomeNumber, lentAfter, fitting}
+use Rattle.meaning.specs.Reference.Answers.{Outcome, refused, entries, lentAfter, fitting}
 use Rattle.meaning.proofs.File.Reads.{file-promised}
 use Rattle.meaning.proofs.File.Accepted.{file-accepted}
 use Rattle.cursor.specs.Answers.{number}
@@ -22,7 +21,6 @@ use Rattle.parsing.specs.declared.Outcome as told
 use Rattle.parsing.specs.declared.Outcome.the-variants as outcomes
 use Rattle.reader.specs.Outcomes.{Tells, layoutOf}
 use Rattle.instrument.specs.declared.Instrument as code
-use Rattle.instrument.specs.Layout.{layout}
 use Rattle.instrument.specs.Described.{Describes}
 use Rattle.answers.specs.Outcomes.{after, within}
 use Rattle.answers.specs.Means.{Holds}

@@ -78,7 +78,3 @@ module _ (W driven : ℕ) (file : List ℕ) (at : ℕ) where
     pub named-undriven : v < W → has driven v ≡ false → named limits W driven file at ≡ fault 8
     unfolding named
     named-undriven h d = rw (e, lt-ltb v W h, d)
-
--- one kind more is ruled out
-pub beyond : {i k : ℕ} → i ≤ k → (k ≡ i → ⊥) → suc i ≤ k
-beyond h n = omega arith

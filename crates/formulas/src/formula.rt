@@ -4,7 +4,7 @@ use cursor::Read;
 use cursor::Refusal;
 use instrument::Node;
 ghost use mathlib.Core.Path.{_≡_};
-ghost use Prim.Native.Nat.{ℕ, _≤_};
+ghost use Prim.Native.Nat.{_≤_};
 ghost use Rattle.meaning.specs.File.Grammar.{limits, named, operands, node};
 ghost use Rattle.cursor.specs.Answers.{got};
 ghost use Rattle.instrument.specs.Layout.{nodeOf};

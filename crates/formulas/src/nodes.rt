@@ -11,7 +11,7 @@ use parsing::step;
 use parsing::step::Step;
 ghost use mathlib.Core.Path.{_≡_};
 ghost use mathlib.Core.List.{map};
-ghost use Prim.Native.Nat.{ℕ, _≤_};
+ghost use Prim.Native.Nat.{_≤_};
 ghost use lib.Seq.{sets};
 ghost use Rattle.meaning.specs.File.Grammar.{limits, nodes};
 ghost use Rattle.instrument.specs.Layout.{nodeOf};

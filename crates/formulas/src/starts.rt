@@ -7,7 +7,7 @@ use parsing::lists;
 use parsing::lists::Moved;
 use parsing::step;
 use parsing::step::Step;
-ghost use Prim.Native.Nat.{ℕ, _+_, _≤_, _<_};
+ghost use Prim.Native.Nat.{_+_, _≤_, _<_};
 ghost use Rattle.meaning.specs.File.Grammar.{limits};
 ghost use Rattle.parsing.specs.Stages.{times};
 ghost use Rattle.parsing.specs.Steps.{Goes, Fits};

@@ -19,20 +19,14 @@ use Rattle.meaning.specs.Relation.{Rel}
 use Rattle.meaning.specs.Table.{Table}
 use Rattle.meaning.specs.Verdict.{Clash, HasFail, HasPass, Right}
 use Rattle.meaning.specs.View.{View, wholeWords}
-use Rattle.meaning.proofs.Cases.{starred}
-use Rattle.meaning.proofs.Classes.Described.{Described, described}
-use Rattle.meaning.proofs.Counterexamples.{dead-end, guarded, unguarded}
+use Rattle.meaning.proofs.Classes.Described.{Described}
 use Rattle.meaning.proofs.Demands.{described-inside, full-onto, full-way, lookup-paths, marks-inside, merged-bits, merged-index}
 use Rattle.meaning.proofs.Demands.{merged-paths, merged-state, no-clash, root-class-names, root-equivalence, under-kept}
 use Rattle.meaning.proofs.Demands.{verdict-right}
 use Rattle.meaning.proofs.File.Formulas.{Under}
-use Rattle.meaning.proofs.File.Nodes.{beneath-under, formula-at}
+use Rattle.meaning.proofs.File.Nodes.{beneath-under}
 use Rattle.meaning.proofs.Marks.Laws.{Fits}
-use Rattle.meaning.proofs.Marks.Partners.{computed-beside, marks-beside}
-use Rattle.meaning.proofs.Marks.Signals.{rel-signal, signals-local, whole-fit}
-use Rattle.meaning.proofs.Marks.Stays.{AtEach, Words, each-classical, each-words, words-each}
-use Rattle.meaning.proofs.Meaning.Index.{index-lt, index-part, part-index, part-lt}
-use Rattle.meaning.proofs.Verdict.{right-unique}
+use Rattle.meaning.proofs.Marks.Signals.{signals-local, whole-fit}
 -- DEMAND 3, marks beside partners: marks-beside by the meaning, computed-beside of what is computed
 pub use Rattle.meaning.proofs.Marks.Partners.{marks-beside, computed-beside}
 -- what Described says of one table: sets largest and least, relations largest, names of classes

@@ -87,7 +87,6 @@ module _ (n : ℕ) (S : ℕ → Table) (cls : ℕ → ℕ → ℕ) (some : (i : 
           ∙ has-fail-classes (S i) (cls i) nodes k (part r i x) (part-lt r i (some i h) x))))
 
       module _ (earlier : Earlier nodes) (W : ℕ) (U : ℕ → Table) (agreeing : (i : ℕ) → i < n → Agreeing (U i) (M i)) where
-
         pub combined-merged : (k x : ℕ) → x < mergedCount n S cls
             → combinedB n U W barred nodes k x ≡ mergedB n S cls κ (high n S) W (formulaAt nodes k) x
         combined-merged k x l =

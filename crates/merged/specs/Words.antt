@@ -4,7 +4,7 @@ use Prim.Native.Nat.{ℕ, suc}
 use Rattle.words.specs.Sets.{built}
 use Rattle.meaning.specs.Table.{Table}
 use Rattle.meaning.specs.Formula.{Formula}
-use Rattle.meaning.specs.Instrument.{Instrument, table, rootNode}
+use Rattle.meaning.specs.Instrument.{Instrument, rootNode}
 use Rattle.meaning.specs.View.{wholeWords}
 use Rattle.meaning.specs.Classes.{classCount, lowestOf}
 use Rattle.meaning.specs.Reference.Marks.{failB}

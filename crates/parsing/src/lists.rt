@@ -3,7 +3,7 @@ use cursor::Cursor;
 use cursor::Read;
 use cursor::Refusal;
 ghost use mathlib.Core.Path.{_≡_};
-ghost use Prim.Native.Nat.{ℕ, _+_, _≤_};
+ghost use Prim.Native.Nat.{_+_, _≤_};
 ghost use lib.ListN.{length};
 ghost use Rattle.meaning.specs.File.Parser.{repeat, listOf, done};
 ghost use Rattle.meaning.specs.File.Grammar.{limits, between, signal, signals, startState, withAll};

@@ -8,7 +8,7 @@ use Rattle.meaning.specs.Verdict.{Verdict, Stage, holds, fails, marks, merged}
 use Rattle.meaning.specs.Reference.Answers.{Outcome, refused, entries, outcomeNumber}
 use Rattle.cursor.specs.Answers.{number}
 use Rattle.cursor.specs.declared.Refusal.{Refusal}
-use Rattle.answers.specs.Outcomes.{outcomeCount, Reply, given, Judgement}
+use Rattle.answers.specs.Outcomes.{outcomeCount, given, Judgement}
 use Rattle.entry_queries.specs.declared.Written.{Written}
 use Rattle.entry_queries.specs.declared.Written.the-variants as written
 use Rattle.value_queries.specs.declared.Looked.{Looked}

@@ -1,20 +1,19 @@
 -- How many entries an answer has at most, so how much room suffices for every file; and that the two parts of a number are the refusal's
 -- number and the count.
-use mathlib.Core.Path.{_≡_, refl, sym, subst, ap}
+use mathlib.Core.Path.{_≡_, refl, sym, subst}
 use mathlib.Core.Bool.{Bool, true, false}
 use mathlib.Core.List.{List, [], _∷_}
 use lib.Dec.{T, leb, leb→le}
 use lib.ListN.{length}
 use native.Mathlib.Omega.{arith}
-use native.Mathlib.Nat.{mul-le-mul-left}
-use Prim.Native.Nat.{ℕ, _+_, _*_, _/_, _%_, _^_, _≤_, _<_}
+use Prim.Native.Nat.{ℕ, _/_, _%_, _^_, _≤_}
 use Rattle.meaning.specs.Instrument.{Instrument, components, table}
 use Rattle.meaning.specs.File.Parser.{Got, found, fault}
 use Rattle.meaning.specs.File.Number.{choose}
 use Rattle.meaning.specs.File.Grammar.{Contents, instrumentOf, readFile, limits}
 use Rattle.meaning.specs.File.Promise.{Promised}
 use Rattle.meaning.specs.Reference.Answers.{Outcome, refused, entries, outcomeNumber, fitting, listBelow, joinBelow}
-use Rattle.meaning.specs.Reference.Answers.{fullCount, fullWord, fullWords, passWord, failWord, markWords, classesAt, classNames, mergedSize, mergedWord, mergedWords}
+use Rattle.meaning.specs.Reference.Answers.{fullCount, fullWord, passWord, failWord, markWords, classesAt, classNames, mergedSize, mergedWord}
 use Rattle.meaning.proofs.Basic.Entries.{list-length}
 use Rattle.meaning.proofs.File.Reads.{file-promised}
 use Rattle.answers.specs.Outcomes.{Reply, given, denied, Judgement, judgement, verdictOf, after, within, outcomeCount}

@@ -1,7 +1,6 @@
 // Questions whose answers are entries in a lent buffer. The result tells how many entries were written, or has the refusal's number in its
 // upper 32 bits; then the buffer is as it was.
 use crate::numbers;
-ghost use mathlib.Core.Path.{_≡_};
 ghost use Prim.Native.Nat.{_^_, _<_};
 ghost use lib.ListN.{length};
 ghost use Rattle.answers.specs.Outcomes.{classOutcome, fullOutcome, markOutcome, mergedOutcome};

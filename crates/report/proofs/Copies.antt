@@ -10,12 +10,12 @@ use Rattle.meaning.specs.File.Promise.{Promised}
 use Rattle.meaning.specs.Reference.Answers.{listBelow, entries, lentAfter}
 use Rattle.meaning.proofs.Basic.Entries.{list-length, list-at, list-same, lent-sets}
 use Rattle.answers.specs.Outcomes.{Judgement}
-use Rattle.answers.specs.Listing.{refusalLine, listingText}
+use Rattle.answers.specs.Listing.{listingText}
 use Rattle.instrument.proofs.Rows.{filled-at}
 use Rattle.text.specs.declared.Text.{Text}
 use Rattle.text.specs.Texts.{textOf}
 use Rattle.report.specs.Report.{Spelled, bytesIn}
-use Rattle.report.proofs.Lengths.{refusal-line-short, listing-length}
+use Rattle.report.proofs.Lengths.{listing-length}
 
 -- a list is its entries
 list-of : (l : List ℕ) → listBelow (length l) (λ x. getD l x 0) ≡ l
@@ -46,6 +46,3 @@ copied text l s old h =
 pub listing-spelled : (k : Contents) → Promised limits k → (j : Judgement) (text : Text) → text ≡ textOf (listingText (instrumentOf k) j)
     → Spelled text (listingText (instrumentOf k) j)
 listing-spelled k p j text e = record { same = e; short = listing-length k p j }
-
-pub refusal-spelled : (r : ℕ) (text : Text) → text ≡ textOf (refusalLine r) → Spelled text (refusalLine r)
-refusal-spelled r text e = record { same = e; short = omega (arith, refusal-line-short r) }

@@ -2,7 +2,6 @@
 use cursor::Refusal;
 use reader::Outcome;
 ghost use mathlib.Core.Path.{_≡_};
-ghost use Prim.Native.Nat.{ℕ, _≤_};
 ghost use Rattle.reader.specs.Outcomes.{faultNumber};
 ghost use Rattle.reader.specs.Stretches.{located};
 ghost use Rattle.stretch_query.specs.Components.{askedNumber, componentBytes};

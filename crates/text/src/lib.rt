@@ -1,7 +1,7 @@
 // Text made piece by piece, by value: bytes and how many of them there are.
 ghost use mathlib.Core.Path.{_≡_};
-ghost use mathlib.Core.List.{List, [], _∷_, _++_};
-ghost use Prim.Native.Nat.{ℕ, _+_, _≤_};
+ghost use mathlib.Core.List.{[], _∷_};
+ghost use Prim.Native.Nat.{_+_, _≤_};
 ghost use lib.ListN.{length};
 ghost use Rattle.answers.specs.Listing.{decimal, digitsOf};
 ghost use Rattle.text.specs.Texts.{Holds, textOf};

@@ -7,10 +7,8 @@ use lib.ListN.{getD}
 use native.Mathlib.Omega.{arith}
 use borrow.Author.Tests.{lt-ltb, le-ltb, le-leb, lt-leb}
 use Prim.Native.Nat.{ℕ, _≤_, _<_}
-use Rattle.meaning.specs.Instrument as meaning
 use Rattle.meaning.specs.Instrument.{Instrument, components, table}
 use Rattle.meaning.specs.Verdict.{Answer}
-use Rattle.meaning.specs.File.Parser.{Got, found, fault}
 use Rattle.meaning.specs.File.Number.{choose}
 use Rattle.meaning.specs.File.Grammar.{Contents, instrumentOf, readFile}
 use Rattle.meaning.specs.Reference.Tests.{allBelow}

@@ -6,9 +6,9 @@ use reader::Outcome;
 use verdict::Verdict;
 ghost use mathlib.Core.Path.{_≡_};
 ghost use mathlib.Core.Bool.{Bool};
-ghost use mathlib.Core.List.{List, [], _∷_};
+ghost use mathlib.Core.List.{[], _∷_};
 ghost use lib.Dec.{eqb, ltb};
-ghost use Prim.Native.Nat.{ℕ, _≤_, _<_};
+ghost use Prim.Native.Nat.{_≤_, _<_};
 ghost use Rattle.meaning.specs.Instrument as meaning;
 ghost use Rattle.meaning.specs.File.Number.{choose};
 ghost use Rattle.meaning.specs.File.Grammar.{Contents, instrumentOf};
@@ -18,7 +18,6 @@ ghost use Rattle.merging.specs.Parts.{OfComponents};
 ghost use Rattle.merged_words.specs.Prepared.{Prepared};
 ghost use Rattle.answers.specs.Outcomes.{Judgement, given, judgement, asksState, lookedUp, lookupOf, lookupReply, verdictOf, verdictReply};
 ghost use Rattle.answers.specs.Means.{Holds, LookupMeans, VerdictMeans};
-ghost use Rattle.verdict.specs.Answers.{answerOf};
 ghost use Rattle.value_queries.specs.Told.{lookedReply, judgedReply};
 
 // Whether the root is true in the asked combined state, or why the question is refused.

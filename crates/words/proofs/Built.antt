@@ -5,7 +5,7 @@ use mathlib.Core.Bool.{Bool, _&&_, _||_, cond, false, not, true}
 use lib.Bits.{and-le-l, bitAnd}
 use lib.Dec.{T, T-not, eqb, lit<}
 use lib.Pow.{pow-pos}
-use native.Mathlib.Decide.{decLt, ℕ-discrete}
+use native.Mathlib.Decide.{ℕ-discrete}
 use native.Mathlib.Nat.{not-suc-le-zero}
 use native.Mathlib.Numerals.{add-one}
 use native.Mathlib.Omega.{arith}
@@ -154,17 +154,6 @@ module _ (k a b t : ℕ) (l : t < k) where
   difference-iff =
       let m = minus-test (has a t) (has b t) in
       (λ h. m .0 (subst T difference-test h), λ h. subst T (sym difference-test) (m .1 h))
-
-  -- it is smaller where a number of a is taken out
-  pub difference-less : T (has a t) → T (has b t) → intersection a (complement k b) < a
-  unfolding intersection
-  difference-less i j =
-      elim (decLt (intersection a (complement k b)) a) [
-        | yes p ↦ p
-        | no p ↦
-            let e : intersection a (complement k b) ≡ a = omega (arith, and-le-l a (complement k b)) in
-            absurd (difference-iff .0 (subst (λ w. T (has w t)) (sym e) i) .1 j)
-      ]
 
 pub common-out : (k a b : ℕ) → a < 2 ^ k → T (not (empty (intersection a b))) → (t : ℕ) × (t < k) × T (has a t) × T (has b t)
 unfolding intersection empty

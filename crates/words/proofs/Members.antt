@@ -128,14 +128,6 @@ insert-iff w t u =
       )
     ]
 
--- a power is the set of its exponent
-pub power-iff : (t u : ℕ) → T (has (2 ^ t) u) ↔ (t ≡ u)
-power-iff t u =
-    elim (ℕ-discrete t u) [
-      | yes e ↦ (λ h. e, λ h. subst (λ u. T (has (2 ^ t) u)) e (one-has (2 ^ t) t (power-here t)))
-      | no z ↦ (λ h. absurd (subst T (not-has (2 ^ t) u (power-elsewhere t u z)) h), λ e. absurd (z e))
-    ]
-
 -- a number above all members
 pub insert-top : (k w : ℕ) → w < 2 ^ k → insert w k ≡ w + 2 ^ k
 unfolding insert

@@ -1,9 +1,7 @@
 // Sets of states as machine words: state t is in the set w where bit t of w is 1. Each contract equates the result with a definition of
 // specs/Sets.antt; what that definition means for membership is proved once, for every width, in proofs/Members.antt.
 ghost use mathlib.Core.Path.{_≡_};
-ghost use mathlib.Core.Bool.{Bool};
-ghost use Prim.Native.Nat.{ℕ, _≤_, _<_};
-ghost use lib.Dec.{eqb};
+ghost use Prim.Native.Nat.{_≤_, _<_};
 ghost use Rattle.words.specs.Sets as sets;
 
 // Whether t is in w.

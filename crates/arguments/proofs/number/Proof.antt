@@ -1,7 +1,6 @@
 use native.Mathlib.Omega.{arith}
 use lib.ListN.{length}
 use Prim.Native.Nat.{_-_}
-use borrow.Author.Needs.{needs}
 use Rattle.arguments.specs.Decimal.{Digits}
 use Rattle.arguments.proofs.Decimal.{start, more, bound, not-long, not-digit, too-large, is-number}
 use Rattle.arguments.proofs.number.Statement.{statement}

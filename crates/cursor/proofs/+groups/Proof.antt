@@ -1,6 +1,6 @@
 -- `cursor::groups` meets its contract: each return is a law of the grammar, and what the recursive call answers are the groups above. The
 -- measure is how many groups may follow.
-use mathlib.Core.Path.{_≡_, refl, sym, ap, _∙_}
+use mathlib.Core.Path.{_≡_, sym, ap, _∙_}
 use lib.ListN.{getD}
 use native.Mathlib.Omega.{arith}
 use borrow.Author.Needs.{needs}

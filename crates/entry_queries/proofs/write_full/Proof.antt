@@ -1,7 +1,6 @@
-use mathlib.Core.Path.{_≡_, ap, sym, _∙_}
+use mathlib.Core.Path.{ap, sym, _∙_}
 use lib.ListN.{length}
 use native.Mathlib.Omega.{arith}
-use Prim.Native.Nat.{_≤_, _<_}
 use borrow.Author.Needs.{needs}
 use Rattle.meaning.specs.File.Grammar.{instrumentOf}
 use Rattle.meaning.specs.Reference.Answers.{entries, lentAfter, fitting, fullCount, fullWord, fullWords}

@@ -79,3 +79,19 @@ pub own-eq : (c a b : Bool) → (T c → a ≡ b) → (T a → T c) → (T b →
 own-eq c true b h f g = h (f tt)
 own-eq c false true h f g = h (g tt)
 own-eq c false false h f g = refl
+
+-- a test beside one whose outcome is known
+pub and-when : (a b : Bool) → b ≡ true → (a && b) ≡ a
+and-when true b e = e
+and-when false b e = refl
+
+pub or-false : (b : Bool) → (b || false) ≡ b
+or-false true = refl
+or-false false = refl
+
+-- either order
+pub or-swap : (a b : Bool) → (a || b) ≡ (b || a)
+or-swap true true = refl
+or-swap true false = refl
+or-swap false true = refl
+or-swap false false = refl

@@ -1,6 +1,6 @@
 -- The instrument file in file order: each number is read, then judged (document 01, The instrument file and Refused, numbers 1 to 10). Limits
 -- and the width of numbers are parameters.
-use mathlib.Core.Bool.{Bool, not, _&&_}
+use mathlib.Core.Bool.{not, _&&_}
 use mathlib.Core.List.{List, [], _∷_, map}
 use lib.Dec.{ltb, leb}
 use lib.ListN.{length, getD}

@@ -1,6 +1,5 @@
 use native.Mathlib.Omega.{arith}
 use Prim.Native.Nat.{_-_}
-use borrow.Author.Needs.{needs}
 use Rattle.instrument.proofs.Bounds.{count-bounds, states-bounds}
 use Rattle.partitions.specs.Progress.{Summing}
 use Rattle.partitions.proofs.Summing.{summing-start, summing-more, summing-end}

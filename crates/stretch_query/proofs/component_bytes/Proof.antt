@@ -1,9 +1,8 @@
-use mathlib.Core.Path.{_≡_, ap₂, sym}
+use mathlib.Core.Path.{ap₂}
 use native.Mathlib.Omega.{arith}
-use Prim.Native.Nat.{_-_, _≤_}
+use Prim.Native.Nat.{_-_}
 use borrow.Author.Needs.{needs}
-use lib.ListN.{length, take, drop}
-use Rattle.reader.specs.Stretches.{located, startOf, endOf}
+use lib.ListN.{take, drop}
 use Rattle.stretch_query.proofs.Stretches.{inside}
 use Rattle.stretch_query.proofs.component_bytes.Statement.{statement}
 use Rattle.stretch_query.proofs.component_bytes.Tie as tie

@@ -1,4 +1,4 @@
-use mathlib.Core.Path.{_≡_, ap, sym, _∙_}
+use mathlib.Core.Path.{ap, sym, _∙_}
 use borrow.Author.Needs.{needs}
 use Rattle.reader.specs.Outcomes.{outcomeNumber}
 use Rattle.stretch_query.proofs.component_refusal.Statement.{statement}

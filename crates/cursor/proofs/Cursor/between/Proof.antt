@@ -4,9 +4,6 @@ use Rattle.cursor.proofs.Judged.{between-stopped, between-low, between-
 use borrow.Author.Needs.{needs}
 use Rattle.cursor.proofs.Cursor.between.Statement.{statement}
 use Rattle.cursor.proofs.Cursor.between.Tie as tie
-use Rattle.cursor.proofs.Cursor.between.Reads as reads
-use Rattle.cursor.proofs.Cursor.between.Lts as lts
-use Rattle.cursor.proofs.Cursor.number.Reads as number-reads
 
 number-requires : tie.Need-number-requires
 number-requires c κs = search needs

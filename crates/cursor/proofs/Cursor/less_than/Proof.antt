@@ -4,9 +4,6 @@ use Rattle.cursor.proofs.Judged.{less-stopped, less-high, less-good}
 use borrow.Author.Needs.{needs}
 use Rattle.cursor.proofs.Cursor.less_than.Statement.{statement}
 use Rattle.cursor.proofs.Cursor.less_than.Tie as tie
-use Rattle.cursor.proofs.Cursor.less_than.Reads as reads
-use Rattle.cursor.proofs.Cursor.less_than.Lts as lts
-use Rattle.cursor.proofs.Cursor.number.Reads as number-reads
 
 number-requires : tie.Need-number-requires
 number-requires c κs = search needs

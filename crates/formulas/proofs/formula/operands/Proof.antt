@@ -9,7 +9,8 @@ use Rattle.instrument.specs.declared.Node.{Node}
 use Rattle.instrument.specs.Layout.{nodeOf}
 use Rattle.parsing.specs.Stages.{mapped}
 use Rattle.formulas.specs.Formulas.{oneOperand}
-use Rattle.formulas.proofs.Formulas.{one, two, unknown, beyond}
+use Rattle.instrument.proofs.Nodes.{past}
+use Rattle.formulas.proofs.Formulas.{one, two, unknown}
 use Rattle.formulas.proofs.formula.operands.Statement.{statement}
 use Rattle.formulas.proofs.formula.operands.Tie as tie
 
@@ -108,8 +109,8 @@ returns-7 c =
 returns-8 : tie.Need-returns-8
 returns-8 c =
     let r = c .match .rest in
-    let from-3 = beyond (beyond (beyond zero-le (r .0 .0 .0 .0 .0 .0 .1)) (r .0 .0 .0 .0 .0 .1)) (r .0 .0 .0 .0 .1) in
-    let from-7 = beyond (beyond (beyond (beyond from-3 (r .0 .0 .0 .1)) (r .0 .0 .1)) (r .0 .1)) (r .1) in
+    let from-3 = past (past (past zero-le (r .0 .0 .0 .0 .0 .0 .1)) (r .0 .0 .0 .0 .0 .1)) (r .0 .0 .0 .0 .1) in
+    let from-7 = past (past (past (past from-3 (r .0 .0 .0 .1)) (r .0 .0 .1)) (r .0 .1)) (r .1) in
     sym (ap (mapped nodeOf) (unknown _ _ _ _ _ _ from-7))
 
 pub operands-spec : {M : Type 1} → statement M

@@ -3,7 +3,6 @@ use lib.ListN.{length, take}
 use lib.Seq.{take-all}
 use native.Mathlib.Omega.{arith}
 use Prim.Native.Nat.{_-_, _≤_}
-use borrow.Author.Needs.{needs}
 use Rattle.text.proofs.Text.word.Statement.{statement}
 use Rattle.text.proofs.Text.word.Tie as tie
 use Rattle.text.specs.Texts.{Holds}
