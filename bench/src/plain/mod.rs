@@ -17,13 +17,11 @@ use refusal::Refusal;
 /// How the parts for which there is a better algorithm are done.
 pub struct Ways {
     pub build: fn(&Instrument, usize, &mut [u64]),
-    pub transpose: fn(&[u64], usize, &mut [u64]),
     pub eg: fn(&[u64], &[u64], usize, &sets::Set) -> sets::Set,
 }
 
 /// The proved crates' algorithms.
-pub const SAME: Ways =
-    Ways { build: steps::build, transpose: transpose::transpose, eg: operators::eg };
+pub const SAME: Ways = Ways { build: steps::build, eg: operators::eg };
 
 /// Crate queries, `full_words`: a word per combined state at the front of `out`, bit k the truth
 /// of node k. Not inlined, so that a profiler sees where it begins.
@@ -47,7 +45,7 @@ fn write_words(ways: &Ways, instrument: &Instrument, n: usize, out: &mut [u32]) 
     let mut steps = vec![0u64; size];
     let mut predecessors = vec![0u64; size];
     (ways.build)(instrument, n, &mut steps);
-    (ways.transpose)(&steps, n, &mut predecessors);
+    transpose::transpose(&steps, n, &mut predecessors);
     let levels = labels::levels(instrument, n);
     let truths = labels::truths(ways, instrument, &steps, &predecessors, &levels);
     labels::write(&truths, out);

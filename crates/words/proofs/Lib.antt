@@ -3,3 +3,4 @@ pub mod Members
 pub mod Built
 pub mod Counts
 pub mod Rows
+pub mod First

@@ -2,7 +2,9 @@
 // specs/Sets.antt; what that definition means for membership is proved once, for every width, in proofs/Members.antt.
 ghost use mathlib.Core.Path.{_≡_};
 ghost use Prim.Native.Nat.{_≤_, _<_};
+ghost use lib.ListN.{length};
 ghost use Rattle.words.specs.Sets as sets;
+ghost use Rattle.words.specs.First.{First, zeros};
 
 // Whether t is in w.
 pub fn member(w: u32, t: u32) -> bool
@@ -79,4 +81,16 @@ pub fn size(w: u32) -> u32
     ensures { λ r. ⌜ r ≡ sets.size 32 w ⌝ }
 {
     u32::count_ones(w)
+}
+
+// Sets the first n words of an array to 0.
+pub fn clear(words: &mut [u32], n: usize)
+    requires { ⌜ n ≤ length (now words) ⌝ }
+    ensures { λ _. ⌜ First n zeros (now (words .entry)) (now (words .exit)) ⌝ }
+{
+    let mut k: usize = 0;
+    while k < n {
+        words[k] = 0;
+        k += 1;
+    }
 }
