@@ -1,11 +1,13 @@
 // A place in an instrument file, and the numbers read from it (document 01, The instrument file). Each contract equates the answer with what
 // the grammar of crate meaning says at that place (specs/File/Grammar), for every sequence of bytes.
 ghost use mathlib.Core.Path.{_≡_};
-ghost use Prim.Native.Nat.{_≤_};
+ghost use Prim.Native.Nat.{_+_, _*_, _^_, _≤_, _<_};
 ghost use lib.ListN.{drop};
+ghost use Rattle.meaning.specs.File.Parser.{found};
 ghost use Rattle.meaning.specs.File.Number.{groups};
 ghost use Rattle.meaning.specs.File.Grammar as grammar;
 ghost use Rattle.cursor.specs.Answers.{number, got};
+ghost use Rattle.cursor.specs.Carried.{carried};
 
 // Why a call is refused, in the order of document 01's numbers, 1 to 14.
 pub enum Refusal {
@@ -60,34 +62,47 @@ pub enum Read {
     Refused(Refusal),
 }
 
+// The number whose highest group is b, which counts `weight` times, over groups of this value. A highest group 0 is the shortest form only where
+// there is no other.
+fn highest(value: u32, weight: u32, b: u32, next: usize) -> Read
+    requires { ⌜ value + weight * b < 2 ^ 32 ⌝ }
+    ensures { λ r. ⌜ got r ≡ carried weight value (found b next) ⌝ }
+{
+    if 0 < b {
+        return Read::Number(value + weight * b, Cursor { at: next });
+    }
+    if 1 < weight {
+        return Read::Refused(Refusal::Form);
+    }
+    Read::Number(value, Cursor { at: next })
+}
+
 // The number from the place `at` on, of at most more + 1 groups; a group in the last possible place is at most 15.
 fn groups(file: &[u8], at: usize, more: u32) -> Read
     requires { ⌜ more ≤ 4 ⌝ }
     ensures { λ r. ⌜ got r ≡ groups 15 more (drop at (now (file .entry))) at ⌝ }
 {
-    if file.len() <= at {
-        return Read::Refused(Refusal::Ended);
-    }
-    let b = file[at] as u32;
-    if more == 0 {
-        if 15 < b {
-            return Read::Refused(Refusal::Form);
-        }
-        return Read::Number(b, Cursor { at: at + 1 });
-    }
-    if b < 128 {
-        return Read::Number(b, Cursor { at: at + 1 });
-    }
-    match groups(file, at + 1, more - 1) {
-        Read::Refused(cause) => Read::Refused(cause),
-        Read::Number(v, next) => {
-            if v == 0 {
-                Read::Refused(Refusal::Form)
-            } else {
-                Read::Number(b % 128 + 128 * v, next)
+    let mut value: u32 = 0;
+    let mut weight: u32 = 1;
+    let mut place = at;
+    let mut left = more;
+    while place < file.len() {
+        let b = file[place] as u32;
+        if left == 0 {
+            if 15 < b {
+                return Read::Refused(Refusal::Form);
             }
+            return highest(value, weight, b, place + 1);
         }
+        if b < 128 {
+            return highest(value, weight, b, place + 1);
+        }
+        value += weight * (b % 128);
+        weight *= 128;
+        place += 1;
+        left -= 1;
     }
+    Read::Refused(Refusal::Ended)
 }
 
 impl Cursor {
