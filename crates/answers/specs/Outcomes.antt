@@ -3,8 +3,8 @@
 use mathlib.Core.Bool.{Bool}
 use mathlib.Core.List.{List}
 use lib.Dec.{leb, ltb, eqb}
-use lib.ListN.{length, getD}
-use Prim.Native.Nat.{ℕ}
+use lib.ListN.{length, getD, take, drop}
+use Prim.Native.Nat.{ℕ, _-_}
 use Rattle.meaning.specs.Instrument.{Instrument, components, table, rootFormula}
 use Rattle.meaning.specs.Combination.{high}
 use Rattle.meaning.specs.View.{wholeWords}
@@ -12,6 +12,7 @@ use Rattle.meaning.specs.Verdict.{Answer, Verdict, Stage, judged, clash, oversi
 use Rattle.meaning.specs.File.Parser.{Got, found, fault}
 use Rattle.meaning.specs.File.Number.{choose}
 use Rattle.meaning.specs.File.Grammar.{Contents, instrumentOf, readFile}
+use Rattle.meaning.specs.File.Stretches.{Stretch, startOf, endOf, located}
 use Rattle.meaning.specs.Reference.Tests.{allBelow}
 use Rattle.meaning.specs.Reference.Merged.{lookupB}
 use Rattle.meaning.specs.Reference.Verdict.{verdictB}
@@ -90,3 +91,13 @@ verdictOf I =
 
 unfoldable pub verdictReply : List ℕ → Reply Judgement
 verdictReply file = replyAfter (readFile file) (λ I. judgement (verdictOf I))
+
+-- ---- the stretch query
+
+-- the bytes of a stretch, none where the question is refused
+abbrev pub bytesOf : List ℕ → Got Stretch → List ℕ
+bytesOf file g = take (endOf g - startOf g) (drop (startOf g) file)
+
+-- component c's bytes, from its state count to its last successor set
+abbrev pub componentBytes : List ℕ → ℕ → List ℕ
+componentBytes file c = bytesOf file (located file c)

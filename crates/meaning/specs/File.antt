@@ -3,3 +3,4 @@ pub mod Parser
 pub mod Number
 pub mod Grammar
 pub mod Promise
+pub mod Stretches

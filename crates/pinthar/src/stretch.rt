@@ -4,9 +4,9 @@ use reader::Outcome;
 ghost use mathlib.Core.Path.{_≡_};
 ghost use Prim.Native.Nat.{_-_, _*_, _^_};
 ghost use lib.ListN.{take, drop};
+ghost use Rattle.meaning.specs.File.Stretches.{located, startOf, endOf};
+ghost use Rattle.answers.specs.Outcomes.{componentBytes};
 ghost use Rattle.reader.specs.Outcomes.{outcomeNumber, faultNumber};
-ghost use Rattle.reader.specs.Stretches.{located, startOf, endOf};
-ghost use Rattle.stretch_query.specs.Components.{componentBytes};
 
 // A question that is answered or refused.
 fn of_outcome(o: Outcome) -> u64

@@ -10,12 +10,12 @@ use Rattle.meaning.specs.File.Grammar.{Contents, limits}
 use Rattle.meaning.specs.File.Promise.{noComponent}
 use Rattle.meaning.proofs.File.Accepted.{promised-at}
 use Rattle.meaning.specs.Reference.Answers.{Outcome, refused, entries}
+use Rattle.meaning.specs.File.Stretches.{startOf, endOf, located}
+use Rattle.answers.specs.Outcomes.{componentBytes}
 use Rattle.answers.specs.Listing.{refusalLine}
 use Rattle.instrument.specs.declared.Instrument.{Instrument}
 use Rattle.instrument.specs.Described.{Describes}
 use Rattle.instrument.proofs.Places.{states-at}
-use Rattle.reader.specs.Stretches.{startOf, endOf, located}
-use Rattle.stretch_query.specs.Components.{componentBytes}
 use Rattle.lines.specs.Made.{FewStates}
 use Rattle.text.specs.declared.Text.{Text}
 use Rattle.text.specs.Texts.{textOf}

@@ -9,6 +9,7 @@ use Prim.Native.Nat.{ℕ, _≤_, _<_}
 use Rattle.meaning.specs.File.Parser.{Got, found, fault, on}
 use Rattle.meaning.specs.File.Number.{choose}
 use Rattle.meaning.specs.File.Grammar.{Contents, limits, between, component, components, drivenBy, readFile}
+use Rattle.meaning.specs.File.Stretches.{Stretch, stretchOf, located, startOf, endOf}
 use Rattle.meaning.proofs.File.Lists.{on-assoc}
 use Rattle.cursor.specs.Answers.{number}
 use Rattle.cursor.specs.declared.Refusal.{Refusal}
@@ -24,7 +25,6 @@ use Rattle.tables.specs.Stages.{addComponent, opened, readFirst}
 use Rattle.tables.proofs.Grammar.{counts-then, times-components}
 use Rattle.reader.specs.declared.Located.{Located}
 use Rattle.reader.specs.Outcomes.{outcomeNumber, faultNumber}
-use Rattle.reader.specs.Stretches.{Stretch, stretchOf, located, startOf, endOf}
 use Rattle.reader.specs.Answers.{Locates, refusedStretch}
 
 pub locates-refused : (l : Located) (r : Refusal) (g : Got Stretch) → l ≡ refusedStretch r → g ≡ fault (number r) → Locates l g

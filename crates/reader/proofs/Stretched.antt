@@ -12,9 +12,9 @@ use Rattle.meaning.specs.File.Parser.{Got, found, fault, on, listOf, repeat}
 use Rattle.meaning.specs.File.Number.{choose}
 use Rattle.meaning.specs.File.Grammar.{Component, Contents, limits, between, component, components, nodes, start, finished, withAll, drivenBy}
 use Rattle.meaning.specs.File.Grammar.{whole, readFile}
+use Rattle.meaning.specs.File.Stretches.{Stretch, stretchOf, located}
 use Rattle.meaning.proofs.File.Lists.{Says, found-says, on-says, list-none, list-more}
 use Rattle.meaning.proofs.File.Progress.{length-list}
-use Rattle.reader.specs.Stretches.{Stretch, stretchOf, located}
 use Rattle.reader.proofs.Forward.{Past, between-past, list-onward, component-past}
 
 -- the stretch lies in the file and is not empty

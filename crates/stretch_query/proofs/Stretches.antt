@@ -5,7 +5,7 @@ use lib.ListN.{length}
 use native.Mathlib.Omega.{arith}
 use Prim.Native.Nat.{ℕ, _≤_}
 use Rattle.meaning.specs.File.Parser.{Got, found, fault}
-use Rattle.reader.specs.Stretches.{Stretch, located, startOf, endOf}
+use Rattle.meaning.specs.File.Stretches.{Stretch, located, startOf, endOf}
 use Rattle.reader.proofs.Stretched.{located-lies}
 
 pub inside : (file : List ℕ) (c : ℕ) → (startOf (located file c) ≤ endOf (located file c)) × (endOf (located file c) ≤ length file)

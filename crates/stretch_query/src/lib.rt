@@ -2,9 +2,10 @@
 use cursor::Refusal;
 use reader::Outcome;
 ghost use mathlib.Core.Path.{_≡_};
+ghost use Rattle.meaning.specs.File.Stretches.{located};
+ghost use Rattle.answers.specs.Outcomes.{componentBytes};
 ghost use Rattle.reader.specs.Outcomes.{faultNumber};
-ghost use Rattle.reader.specs.Stretches.{located};
-ghost use Rattle.stretch_query.specs.Components.{askedNumber, componentBytes};
+ghost use Rattle.stretch_query.specs.Components.{askedNumber};
 
 // Whether a question is answered, or why it is refused.
 pub enum Asked {

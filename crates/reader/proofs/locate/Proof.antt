@@ -1,9 +1,9 @@
 use mathlib.Core.Path.{sym, ap, _∙_}
 use native.Mathlib.Omega.{arith}
 use Rattle.meaning.specs.File.Grammar.{readFile}
+use Rattle.meaning.specs.File.Stretches.{startOf, endOf}
 use Rattle.parsing.proofs.Steps.{refused-was, accepted-was}
 use Rattle.reader.specs.Outcomes.{faultNumber}
-use Rattle.reader.specs.Stretches.{startOf, endOf}
 use Rattle.reader.proofs.Places.{locates-refused, located-fault, located-beyond, located-within}
 use borrow.Author.Needs.{needs}
 use Rattle.reader.proofs.locate.Statement.{statement}
