@@ -17,3 +17,4 @@ pub mod Accepted
 pub mod Limit
 pub mod Sizes
 pub mod Longest
+pub mod Faults
