@@ -15,3 +15,5 @@ pub mod NodeLists
 pub mod Reads
 pub mod Accepted
 pub mod Limit
+pub mod Sizes
+pub mod Longest
