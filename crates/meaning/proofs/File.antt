@@ -17,3 +17,5 @@ pub mod Accepted
 pub mod Limit
 pub mod Sizes
 pub mod Longest
+pub mod Written
+pub mod LongestFile
