@@ -13,7 +13,7 @@ use Rattle.meaning.specs.File.Number.{choose, groups, withHigher}
 use Rattle.meaning.specs.File.Parser.{Got, Parser, demand, done, fault, found, listOf, on, repeat}
 use Rattle.meaning.specs.Nodes.{Node, atom, eg, eu, ex, neg, or, top}
 use Rattle.meaning.proofs.Basic.Booleans.{is-false, is-true}
-use Rattle.meaning.proofs.File.Lists.{Says, found-says, list-more, list-none, on-says, says-map}
+use Rattle.meaning.proofs.File.Lists.{Says, Told, found-says, list-more, list-none, says-map, told-found, told-map, told-on}
 
 -- the bytes of a number, of which `more` may stand before the last
 abbrev pub bytes : ℕ → ℕ → ℕ
@@ -67,24 +67,10 @@ module _ (L : Limits) where
       (numberBytes (length (c .components)) + numberBytes (c .signals) + total componentSize (c .components))
       + (numberBytes (length (c .nodes)) + total nodeSize (c .nodes)) + (numberBytes (length (c .starts)) + total numbersBytes (c .starts))
 
--- what was found, and the place after it, are P
-record Told {A : Type 0} (P : A → ℕ → Type 0) (g : Got A) : Type 0 where
-  told : Says P g
-
-told-on : {A B : Type 0} {P : A → ℕ → Type 0} {Q : B → ℕ → Type 0} {g : Got A} {f : A → ℕ → Got B} → Told P g
-    → ((a : A) (n : ℕ) → P a n → Told Q (f a n)) → Told Q (on g f)
-told-on {P = P} {Q = Q} {g = g} {f = f} h k = record { told = on-says P Q g f (h .told) (λ a n p. k a n p .told) }
-
 -- a test reads nothing
 told-demand : (file : List ℕ) (n : ℕ) (test : Bool) (r : ℕ) → Told (λ d m. T test × (m ≡ n)) (demand test r file n)
 told-demand file n true r = record { told = (tt, refl) }
 told-demand file n false r = record { told = tt }
-
-told-map : {A : Type 0} {P Q : A → ℕ → Type 0} {g : Got A} → ((a : A) (e : ℕ) → P a e → Q a e) → Told P g → Told Q g
-told-map {P = P} {Q = Q} {g = g} f h = record { told = says-map P Q f g (h .told) }
-
-told-found : {A : Type 0} (P : A → ℕ → Type 0) (a : A) (n : ℕ) → P a n → Told P (found a n)
-told-found P a n h = record { told = h }
 
 module _ (file : List ℕ) where
   -- from the place `at` on, so many bytes of the file up to the place e
