@@ -19,3 +19,4 @@ pub mod Sizes
 pub mod Longest
 pub mod Written
 pub mod LongestFile
+pub mod Examples

@@ -1,7 +1,7 @@
 -- No theorem speaks of nothing: what the public theorems assume is met by the pair and the chain of document 01, read from their bytes, and by a
 -- partner that no file could hold. Premises that exclude each other, as in no-clash and never-14, and excluded middle in
 -- each-classical are not among them.
-use mathlib.Core.Path.{_≡_, refl}
+use mathlib.Core.Path.{refl}
 use mathlib.Core.Logic.{_≢_, inl}
 use mathlib.Core.Bool.{not}
 use mathlib.Core.List.{List, [], _∷_}
@@ -10,20 +10,16 @@ use lib.ListN.{getD}
 use native.Mathlib.Nat.{mod-lt}
 use native.Mathlib.Omega.{arith}
 use Prim.Native.Nat.{_%_, _+_, _<_, _≤_, suc, zero, ℕ}
-use Rattle.words.specs.Sets.{built, digit, insert}
-use Rattle.meaning.specs.Cases.{chainEX, pair}
+use Rattle.words.specs.Sets.{built, digit}
 use Rattle.meaning.specs.Classes.{ClassNames}
 use Rattle.meaning.specs.Combination.{State, Truth, high}
-use Rattle.meaning.specs.File.Grammar.{Contents, between, component, instrumentOf, lessThan, limits, named, node, readFile, signal}
-use Rattle.meaning.specs.File.Grammar.{whole, withAll}
-use Rattle.meaning.specs.File.Number.{groups}
-use Rattle.meaning.specs.File.Parser.{found, listOf}
-use Rattle.meaning.specs.File.Promise.{Promised, componentAt}
+use Rattle.meaning.specs.File.Grammar.{limits}
+use Rattle.meaning.specs.File.Promise.{componentAt}
 use Rattle.meaning.specs.Formula.{Formula}
-use Rattle.meaning.specs.Instrument.{Accepted, Instrument, IsStart, Partner, WellFormed, components, rootFormula, rootNode, table}
+use Rattle.meaning.specs.Instrument.{IsStart, Partner, WellFormed, rootFormula, rootNode, table}
 use Rattle.meaning.specs.Marks.{Fail, Move, Pass}
 use Rattle.meaning.specs.Merged.{MergedOf, mergedCount, mergedTables}
-use Rattle.meaning.specs.Nodes.{Beneath, Earlier, atom, eg, ex, formulaAt, of-eg, through}
+use Rattle.meaning.specs.Nodes.{Beneath, Earlier, atom, formulaAt, of-eg, through}
 use Rattle.meaning.specs.Paths.{IsPath}
 use Rattle.meaning.specs.Reference.Verdict.{rootClasses}
 use Rattle.meaning.specs.Relation.{Rel}
@@ -35,63 +31,18 @@ use Rattle.meaning.proofs.Basic.Lists.{all-listed}
 use Rattle.meaning.proofs.Basic.Equivalence.{Equivalence}
 use Rattle.meaning.proofs.Claims.{Words, described-01, full-01, merged-state-01, verdict-01}
 use Rattle.meaning.proofs.Demands.{Keeps, root-class-names, root-equivalence, under-kept}
-use Rattle.meaning.proofs.File.Accepted.{file-accepted, promised-at, word-at}
+use Rattle.meaning.proofs.File.Accepted.{promised-at, word-at}
+use Rattle.meaning.proofs.File.Examples.{accepted-met, chain-accepted, chainI, pairContents, pairI, promised-met}
 use Rattle.meaning.proofs.File.Formulas.{Under}
 use Rattle.meaning.proofs.File.Nodes.{beneath-under}
-use Rattle.meaning.proofs.File.Reads.{file-promised}
 use Rattle.meaning.proofs.Marks.Laws.{Fits, Lawful, Local, Shows, Sound}
 use Rattle.meaning.proofs.Marks.Partners.{computed-beside, other-partners}
 use Rattle.meaning.proofs.Marks.Signals.{whole-fit}
 
--- ---- the pair, and the chain with EX p
-abbrev pub pairContents : Contents
-pairContents =
-    record {
-      signals = 2;
-      components =
-          record { states = 2; inputs = 1 ∷ []; outputs = 0 ∷ []; outs = 1 ∷ 0 ∷ []; nexts = 2 ∷ 1 ∷ 2 ∷ 2 ∷ [] }
-          ∷ record { states = 2; inputs = []; outputs = 1 ∷ []; outs = 1 ∷ 0 ∷ []; nexts = 3 ∷ 2 ∷ [] }
-          ∷ [];
-      nodes = atom 0 ∷ eg 0 ∷ [];
-      starts = (0 ∷ 0 ∷ []) ∷ [];
-    }
-
-abbrev pub chainContents : Contents
-chainContents =
-    record {
-      signals = 1;
-      components = record { states = 3; inputs = []; outputs = 0 ∷ []; outs = 1 ∷ 1 ∷ 0 ∷ []; nexts = 2 ∷ 4 ∷ 4 ∷ [] } ∷ [];
-      nodes = atom 0 ∷ ex 0 ∷ [];
-      starts = (0 ∷ []) ∷ [];
-    }
-
-pub pair-read : readFile (pair (1 ∷ 0 ∷ 0 ∷ [])) ≡ found pairContents 29
-unfolding digit insert withAll groups listOf between lessThan signal component named node whole
-pair-read = refl
-
-pub chain-read : readFile chainEX ≡ found chainContents 19
-unfolding digit insert withAll groups listOf between lessThan signal component named node whole
-chain-read = refl
-
-abbrev pub pairI : Instrument
-pairI = instrumentOf pairContents
-
-abbrev pub chainI : Instrument
-chainI = instrumentOf chainContents
-
 abbrev pub S : ℕ → Table
 S = table pairI
 
--- ---- what is assumed of a file
-pub promised-met : Promised limits pairContents
-promised-met = file-promised (pair (1 ∷ 0 ∷ 0 ∷ [])) pairContents 29 pair-read
-
-pub accepted-met : Accepted pairI
-accepted-met = file-accepted (pair (1 ∷ 0 ∷ 0 ∷ [])) pairContents 29 pair-read
-
-pub chain-accepted : Accepted chainI
-chain-accepted = file-accepted chainEX chainContents 19 chain-read
-
+-- ---- what is assumed of a file: Promised and Accepted are met in File/Examples
 pub well-formed-met : WellFormed 2 S 2
 well-formed-met = accepted-met .well-formed
 
