@@ -1,3 +1,4 @@
 pub mod Means
 pub mod Starts
 pub mod Limit
+pub mod Inhabited

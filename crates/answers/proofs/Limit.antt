@@ -1,17 +1,20 @@
--- The first 16,385 bytes settle every longer input for each question that hangs on the file's contents alone (document 01, The instrument file
--- and Verdict and listing).
-use mathlib.Core.Path.{_≡_, ap}
+-- The first 16,385 bytes settle every longer input for each question (document 01, The instrument file and Verdict and listing).
+use mathlib.Core.Path.{_∙_, _≡_, ap}
 use mathlib.Core.List.{List}
-use lib.ListN.{take}
-use Prim.Native.Nat.{ℕ}
+use lib.ListN.{drop, take}
+use lib.Seq.{take-take}
+use native.Mathlib.Omega.{arith}
+use Prim.Native.Nat.{_-_, ℕ}
 use Rattle.meaning.specs.File.Grammar.{Contents, readFile}
 use Rattle.meaning.specs.File.Parser.{Got}
 use Rattle.meaning.specs.File.Promise.{listingBytes}
+use Rattle.meaning.specs.File.Stretches.{endOf, located, startOf}
 use Rattle.meaning.specs.Reference.Answers.{fitting, fullCount, fullWords, markWords, classNames, mergedSize, mergedWords}
-use Rattle.meaning.proofs.File.Limit.{limit}
+use Rattle.meaning.proofs.File.Limit.{limit, located-end, located-limit}
+use Rattle.meaning.proofs.File.Numbers.{drop-take}
 use Rattle.answers.specs.Listing.{listed, listingOutcome}
-use Rattle.answers.specs.Outcomes.{after, classOutcome, fullOutcome, judgement, lookupOf, lookupReply, markOutcome, mergedOutcome}
-use Rattle.answers.specs.Outcomes.{replyAfter, verdictOf, verdictReply, within}
+use Rattle.answers.specs.Outcomes.{after, bytesOf, classOutcome, componentBytes, fullOutcome, judgement, lookupOf, lookupReply}
+use Rattle.answers.specs.Outcomes.{markOutcome, mergedOutcome, replyAfter, verdictOf, verdictReply, within}
 
 -- whatever is made of what was read is made of the first bytes too
 pub settles : {X : Type 0} (f : Got Contents → X) (file : List ℕ) → f (readFile (take listingBytes file)) ≡ f (readFile file)
@@ -46,3 +49,12 @@ module _ (file : List ℕ) where
   pub verdict-settled : verdictReply (take listingBytes file) ≡ verdictReply file
   unfolding verdictReply
   verdict-settled = settles (λ g. replyAfter g (λ I. judgement (verdictOf I))) file
+
+  -- a component's bytes stand in the first ones
+  pub component-settled : (c : ℕ) → componentBytes (take listingBytes file) c ≡ componentBytes file c
+  component-settled c =
+      let a = startOf (located file c) in
+      let e = endOf (located file c) in
+      ap (λ g. bytesOf (take listingBytes file) g) (located-limit file c)
+      ∙ (ap (λ l. take (e - a) l) (drop-take a listingBytes file)
+      ∙ take-take (e - a) (listingBytes - a) (drop a file) (omega (arith, located-end file c)))

@@ -18,3 +18,6 @@ pub mod Limit
 pub mod Sizes
 pub mod Longest
 pub mod Faults
+pub mod Written
+pub mod LongestFile
+pub mod Examples

@@ -22,8 +22,9 @@ use Rattle.meaning.specs.Tests.{All, listed}
 use Rattle.meaning.proofs.Basic.Bounded.{last-or}
 use Rattle.meaning.proofs.Basic.Lists.{all-map, listed-at}
 use Rattle.meaning.proofs.Basic.Rounds.{one, one-le, one-mono, sum-le, sum-mono, sumBelow}
+use Rattle.meaning.proofs.File.Accepted.{promised-at}
 use Rattle.meaning.proofs.File.Driven.{with-all-out}
-use Rattle.meaning.proofs.File.Members.{all-at, all-member, listed-first, listed-others}
+use Rattle.meaning.proofs.File.Members.{all-member, listed-first, listed-others}
 use Rattle.meaning.proofs.File.Parsers.{reads-found}
 use Rattle.meaning.proofs.File.Reads.{reads-whole}
 use Rattle.meaning.proofs.File.Sizes.{bytes, bytes-high, bytes-low, bytes-some, componentSize, contentsSize, file-size, nodeSize}
@@ -56,8 +57,11 @@ bytes-bits (suc more) v bits l =
           omega (arith, bytes-high more v (omega arith), i)
     ]
   where
+    few : (bits : ℕ) → bits ≤ 7 → v < 2 ^ bits → 128 ≤ v → ⊥
+    few bits s l h = let m : 2 ^ bits ≤ 128 = pow-mono {j = 7} s in omega arith
+
     many : (bits : ℕ) → v < 2 ^ bits → 128 ≤ v → 8 ≤ bits
-    many bits l h = elim (decLt bits 8) [ yes k ↦ absurd (let s : bits ≤ 7 = omega arith in let m : 2 ^ bits ≤ 128 = pow-mono {j = 7} s in omega arith) | no k ↦ omega arith ]
+    many bits l h = elim (decLt bits 8) [ yes k ↦ absurd (few bits (omega arith) l h) | no k ↦ omega arith ]
 
     split : (bits : ℕ) → 7 ≤ bits → 2 ^ bits ≡ 2 ^ (bits - 7) * 128
     split bits k = let e : bits ≡ (bits - 7) + 7 = omega arith in ap (λ b. 2 ^ b) e ∙ pow-add 2 (bits - 7) 7
@@ -84,7 +88,8 @@ module _ (W : ℕ) where
   insert-more (suc n) set v l free =
       elim (last-or v n l) [
         | inl e ↦ subst (λ n. suc (sumBelow (suc n) (λ w. one (has set w))) ≤ sumBelow (suc n) (λ w. one (has (insert set v) w))) e
-            (last v (has set v) (has (insert set v) v) free (has-insert set v) (sum-mono v _ _ (λ w k. one-mono (has set w) (has (insert set v) w) (insert-in set v w))))
+            (last v (has set v) (has (insert set v) v) free (has-insert set v)
+            (sum-mono v _ _ (λ w k. one-mono (has set w) (has (insert set v) w) (insert-in set v w))))
         | inr k ↦ omega (arith, insert-more n set v k free, one-mono (has set n) (has (insert set v) n) (insert-in set v n))
       ]
     where
@@ -94,7 +99,8 @@ module _ (W : ℕ) where
       last v false false f t h = absurd t
 
   -- an ascending list of signals that are not in the set
-  list-more : (set : ℕ) (vs : List ℕ) → Signals W vs → ((w : ℕ) → T (listed vs w) → T (has set w) → ⊥) → members set + length vs ≤ members (withAll set vs)
+  list-more : (set : ℕ) (vs : List ℕ) → Signals W vs → ((w : ℕ) → T (listed vs w) → T (has set w) → ⊥)
+      → members set + length vs ≤ members (withAll set vs)
   unfolding withAll
   list-more set [] h free = omega arith
   list-more set (v ∷ vs) h free =
@@ -264,11 +270,12 @@ module _ (L : Limits) where
     named-below : (k w : ℕ) → nodeAt (c .nodes) k ≡ atom w → w < L .signals
     named-below k w e =
         let (i, l, o) = p .named k w e in
-        let q : PromisedComponent L (c .signals) (componentAt c i) = all-at (PromisedComponent L (c .signals)) (c .components) (p .components) noComponent i l in
+        let q = promised-at L c p i l in
         let s : w < c .signals = all-member (λ v. v < c .signals) (componentAt c i .outputs) (q .outputs .below) w o in
         omega (arith, s, p .signalCount)
 
-    start-le : (start : List ℕ) → (length start ≡ length (c .components)) × ((i : ℕ) → i < length (c .components) → getD start i 0 < componentAt c i .states)
+    start-le : (start : List ℕ)
+        → (length start ≡ length (c .components)) × ((i : ℕ) → i < length (c .components) → getD start i 0 < componentAt c i .states)
         → numbersBytes L start ≤ L .components * num (L .states)
     start-le start h =
         let a = total-le (numberBytes L) (num (L .states)) start (all-from (λ v. num v ≤ num (L .states)) 0 start each) in
@@ -277,7 +284,7 @@ module _ (L : Limits) where
         each : (j : ℕ) → j < length start → num (getD start j 0) ≤ num (L .states)
         each j l =
             let k : j < length (c .components) = omega (arith, h .0) in
-            let q : PromisedComponent L (c .signals) (componentAt c j) = all-at (PromisedComponent L (c .signals)) (c .components) (p .components) noComponent j k in
+            let q = promised-at L c p j k in
             num-le (getD start j 0) (L .states) (omega (arith, h .1 j k, q .states .1))
 
     starts-le : total (numbersBytes L) (c .starts) ≤ L .starts * (L .components * num (L .states))

@@ -13,7 +13,7 @@ use Rattle.meaning.specs.File.Number.{choose, groups, withHigher}
 use Rattle.meaning.specs.File.Parser.{Got, Parser, demand, done, fault, found, listOf, on, repeat}
 use Rattle.meaning.specs.Nodes.{Node, atom, eg, eu, ex, neg, or, top}
 use Rattle.meaning.proofs.Basic.Booleans.{is-false, is-true}
-use Rattle.meaning.proofs.File.Lists.{Says, found-says, list-more, list-none, on-says, says-map}
+use Rattle.meaning.proofs.File.Lists.{Says, Told, found-says, list-more, list-none, says-map, told-found, told-map, told-on}
 
 -- the bytes of a number, of which `more` may stand before the last
 abbrev pub bytes : ℕ → ℕ → ℕ
@@ -50,8 +50,8 @@ module _ (L : Limits) where
 
   abbrev pub componentSize : Component → ℕ
   componentSize c =
-      numberBytes (c .states) + (numberBytes (length (c .inputs)) + numbersBytes (c .inputs)) + (numberBytes (length (c .outputs)) + numbersBytes (c .outputs))
-      + numbersBytes (c .outs) + numbersBytes (c .nexts)
+      numberBytes (c .states) + (numberBytes (length (c .inputs)) + numbersBytes (c .inputs))
+      + (numberBytes (length (c .outputs)) + numbersBytes (c .outputs)) + numbersBytes (c .outs) + numbersBytes (c .nexts)
 
   abbrev pub nodeSize : Node ℕ → ℕ
   nodeSize top = 1
@@ -67,24 +67,10 @@ module _ (L : Limits) where
       (numberBytes (length (c .components)) + numberBytes (c .signals) + total componentSize (c .components))
       + (numberBytes (length (c .nodes)) + total nodeSize (c .nodes)) + (numberBytes (length (c .starts)) + total numbersBytes (c .starts))
 
--- what was found, and the place after it, are P
-record Told {A : Type 0} (P : A → ℕ → Type 0) (g : Got A) : Type 0 where
-  told : Says P g
-
-told-on : {A B : Type 0} {P : A → ℕ → Type 0} {Q : B → ℕ → Type 0} {g : Got A} {f : A → ℕ → Got B} → Told P g
-    → ((a : A) (n : ℕ) → P a n → Told Q (f a n)) → Told Q (on g f)
-told-on {P = P} {Q = Q} {g = g} {f = f} h k = record { told = on-says P Q g f (h .told) (λ a n p. k a n p .told) }
-
 -- a test reads nothing
 told-demand : (file : List ℕ) (n : ℕ) (test : Bool) (r : ℕ) → Told (λ d m. T test × (m ≡ n)) (demand test r file n)
 told-demand file n true r = record { told = (tt, refl) }
 told-demand file n false r = record { told = tt }
-
-told-map : {A : Type 0} {P Q : A → ℕ → Type 0} {g : Got A} → ((a : A) (e : ℕ) → P a e → Q a e) → Told P g → Told Q g
-told-map {P = P} {Q = Q} {g = g} f h = record { told = says-map P Q f g (h .told) }
-
-told-found : {A : Type 0} (P : A → ℕ → Type 0) (a : A) (n : ℕ) → P a n → Told P (found a n)
-told-found P a n h = record { told = h }
 
 module _ (file : List ℕ) where
   -- from the place `at` on, so many bytes of the file up to the place e
@@ -111,7 +97,8 @@ module _ (file : List ℕ) where
           let d : (b % 128 + 128 * suc v) / 128 ≡ suc v = omega arith in
           let s : bytes (suc more) (b % 128 + 128 * suc v) ≡ suc (bytes more ((b % 128 + 128 * suc v) / 128)) =
           bytes-high more (b % 128 + 128 * suc v) (omega arith) in
-          let s′ : bytes (suc more) (b % 128 + 128 * suc v) ≡ suc (bytes more (suc v)) = subst (λ x. bytes (suc more) (b % 128 + 128 * suc v) ≡ suc (bytes more x)) d s in
+          let s′ : bytes (suc more) (b % 128 + 128 * suc v) ≡ suc (bytes more (suc v)) =
+          subst (λ x. bytes (suc more) (b % 128 + 128 * suc v) ≡ suc (bytes more x)) d s in
           (omega (arith, h .0, s′), omega (arith, h .1))
       go false q (fault r) h = tt
 
@@ -209,13 +196,16 @@ module _ (file : List ℕ) where
           told-on (less-takes k 7 n) (λ a e p. told-on (less-takes k 7 e) (λ b e p′. told-found _ (f a b) e
           (record { is = omega (arith, p .is, p′ .is, s a b); inside = p′ .inside })))
 
-      operands-take : (kind : ℕ) → n ≤ length file → n ≡ at + numberBytes L kind → Told (λ m e. Takes at (nodeSize L m) e) (operands L W driven k kind file n)
+      operands-take : (kind : ℕ) → n ≤ length file → n ≡ at + numberBytes L kind
+          → Told (λ m e. Takes at (nodeSize L m) e) (operands L W driven k kind file n)
       operands-take zero l q = told-found _ top n (record { is = omega (arith, low 0 (omega arith)); inside = l })
       operands-take (suc zero) l q = unary-takes atom (named L W driven) (λ a. refl) (omega (arith, low 1 (omega arith))) (named-takes W driven n)
       operands-take (suc (suc zero)) l q = unary-takes neg (earlier L k) (λ a. refl) (omega (arith, low 2 (omega arith))) (less-takes k 7 n)
       operands-take (suc (suc (suc zero))) l q = binary-takes or (λ a b. refl) (omega (arith, low 3 (omega arith)))
-      operands-take (suc (suc (suc (suc zero)))) l q = unary-takes ex (earlier L k) (λ a. refl) (omega (arith, low 4 (omega arith))) (less-takes k 7 n)
-      operands-take (suc (suc (suc (suc (suc zero))))) l q = unary-takes eg (earlier L k) (λ a. refl) (omega (arith, low 5 (omega arith))) (less-takes k 7 n)
+      operands-take (suc (suc (suc (suc zero)))) l q =
+          unary-takes ex (earlier L k) (λ a. refl) (omega (arith, low 4 (omega arith))) (less-takes k 7 n)
+      operands-take (suc (suc (suc (suc (suc zero))))) l q =
+          unary-takes eg (earlier L k) (λ a. refl) (omega (arith, low 5 (omega arith))) (less-takes k 7 n)
       operands-take (suc (suc (suc (suc (suc (suc zero)))))) l q = binary-takes eu (λ a b. refl) (omega (arith, low 6 (omega arith)))
       operands-take (suc (suc (suc (suc (suc (suc (suc unknown))))))) l q = record { told = tt }
 
@@ -235,11 +225,14 @@ module _ (file : List ℕ) where
     whole-takes =
         told-on (between-takes _ _ _ 0) (λ n e hn.
         told-on (between-takes _ _ _ e) (λ W e hW.
-        told-on (list-takes (component L W) (λ driven c. withAll driven (c .outputs)) (componentSize L) (λ driven at l. component-takes W driven at) n 0 e (hW .inside)) (λ cs e qc.
+        told-on (list-takes (component L W) (λ driven c. withAll driven (c .outputs)) (componentSize L)
+        (λ driven at l. component-takes W driven at) n 0 e (hW .inside)) (λ cs e qc.
         told-on (between-takes _ _ _ e) (λ k e hk.
-        told-on (list-takes (node L W (drivenBy 0 cs)) (λ k a. k + 1) (nodeSize L) (λ k at l. node-takes W (drivenBy 0 cs) k at) k 0 e (hk .inside)) (λ ns e qn.
+        told-on (list-takes (node L W (drivenBy 0 cs)) (λ k a. k + 1) (nodeSize L)
+        (λ k at l. node-takes W (drivenBy 0 cs) k at) k 0 e (hk .inside)) (λ ns e qn.
         told-on (between-takes _ _ _ e) (λ m e hm.
-        told-on (list-takes (λ s. start L (map (λ c. c .states) cs)) (λ s a. s) (numbersBytes L) (λ s at l. start-takes (map (λ c. c .states) cs) at l) m done e (hm .inside)) (λ ss e qs.
+        told-on (list-takes (λ s. start L (map (λ c. c .states) cs)) (λ s a. s) (numbersBytes L)
+        (λ s at l. start-takes (map (λ c. c .states) cs) at l) m done e (hm .inside)) (λ ss e qs.
         told-on (told-demand file e (leb (length file) e) 10) (λ d e′ h.
         told-found _ (record { signals = W; components = cs; nodes = ns; starts = ss }) e′
         (let a : numberBytes L (length cs) ≡ numberBytes L n = ap (numberBytes L) (qc .long) in
@@ -251,7 +244,8 @@ module _ (file : List ℕ) where
         ))))))))))
 
 -- a good file ends with its last number: it has the bytes of its contents, and no others
-pub file-size : (L : Limits) (file : List ℕ) (c : Contents) (e : ℕ) → whole L file 0 ≡ found c e → (e ≡ length file) × (length file ≡ contentsSize L c)
+pub file-size : (L : Limits) (file : List ℕ) (c : Contents) (e : ℕ) → whole L file 0 ≡ found c e
+    → (e ≡ length file) × (length file ≡ contentsSize L c)
 file-size L file c e q =
     let h = found-says (λ c e. (e ≡ contentsSize L c) × (e ≡ length file)) (whole L file 0) (whole-takes file L .told) c e q in
     (h .1, sym (h .1) ∙ h .0)

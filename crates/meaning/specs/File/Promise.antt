@@ -64,6 +64,6 @@ pub record Promised (L : Limits) (c : Contents) : Type 0 where
 abbrev pub listingBytes : ℕ
 listingBytes = 16385
 
--- a good file has at most so many bytes (proofs/File/Longest)
+-- a good file has at most so many bytes, and one has that many (proofs/File/Longest, LongestFile)
 abbrev pub longestFile : ℕ
 longestFile = 10771
