@@ -78,9 +78,11 @@ uint64_t pinthar_lookup(const uint8_t *file, size_t file_size, uint32_t s0, uint
 enum { PINTHAR_FAILS_MARKS = 0, PINTHAR_HOLDS_MARKS = 1, PINTHAR_FAILS_MERGED = 2, PINTHAR_HOLDS_MERGED = 3 };
 uint64_t pinthar_verdict(const uint8_t *file, size_t file_size);
 
-/* A component's own part of the file, from its state count to its last successor set: *start is where it begins and *size its number of
- * bytes. Both are 0 where the question is refused; an answered one has at least one byte. Neither pointer may be null. 1 to 10, 3. */
-uint64_t pinthar_component(const uint8_t *file, size_t file_size, uint32_t component, size_t *start, size_t *size);
+/* A component's own part of the file, from its state count to its last successor set: answers the place of its first byte in the upper 16
+ * bits and how many bytes it has, at least one, in the lower 16. 1 to 10, 3. */
+#define PINTHAR_PLACE(result) ((uint32_t)(result) >> 16)
+#define PINTHAR_SIZE(result) ((uint32_t)(result) & 0xffffu)
+uint64_t pinthar_component(const uint8_t *file, size_t file_size, uint32_t component);
 
 #ifdef __cplusplus
 }

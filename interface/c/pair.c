@@ -41,16 +41,15 @@ static void bytes(void)
 
 static void values(void)
 {
-    size_t start = 7, size = 7;
     expect("start (0, 0) holds merged", pinthar_verdict(pair, sizeof pair) == PINTHAR_HOLDS_MERGED);
     expect("the root is true in (0, 0)", pinthar_lookup(pair, sizeof pair, 0, 0, 0, 0) == 1);
     expect("the root is false in (1, 0)", pinthar_lookup(pair, sizeof pair, 1, 0, 0, 0) == 0);
     expect("no state (2, 0)", PINTHAR_REFUSAL(pinthar_lookup(pair, sizeof pair, 2, 0, 0, 0)) == PINTHAR_NO_SUCH_STATE);
     expect("no file", PINTHAR_REFUSAL(pinthar_verdict(pair, 0)) == PINTHAR_FILE_ENDS);
-    uint64_t r = pinthar_component(pair, sizeof pair, 1, &start, &size);
-    expect("component 1 is bytes 13 to 20", r == 0 && start == 13 && size == 8);
-    r = pinthar_component(pair, sizeof pair, 2, &start, &size);
-    expect("no component 2", PINTHAR_REFUSAL(r) == PINTHAR_OUTSIDE_RANGE && start == 0 && size == 0);
+    uint64_t r = pinthar_component(pair, sizeof pair, 1);
+    expect("component 1 is bytes 13 to 20", PINTHAR_REFUSAL(r) == 0 && PINTHAR_PLACE(r) == 13 && PINTHAR_SIZE(r) == 8);
+    r = pinthar_component(pair, sizeof pair, 2);
+    expect("no component 2", PINTHAR_REFUSAL(r) == PINTHAR_OUTSIDE_RANGE && PINTHAR_ANSWER(r) == 0);
 }
 
 int main(void)

@@ -30,7 +30,6 @@ struct call {
 
 static void ask(struct call *c)
 {
-    size_t start, size;
     switch (c->question) {
     case 0: c->result = pinthar_full_words(c->file, c->size, c->words, 4096); break;
     case 1: c->result = pinthar_mark_words(c->file, c->size, c->words, 4096); break;
@@ -39,7 +38,7 @@ static void ask(struct call *c)
     case 4: c->result = pinthar_listing(c->file, c->size, (uint8_t *)c->words, 4096); break;
     case 5: c->result = pinthar_lookup(c->file, c->size, 0, 0, 0, 0); break;
     case 6: c->result = pinthar_verdict(c->file, c->size); break;
-    case 7: c->result = pinthar_component(c->file, c->size, 0, &start, &size); break;
+    case 7: c->result = pinthar_component(c->file, c->size, 0); break;
     }
 }
 

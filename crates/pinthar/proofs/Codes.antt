@@ -1,14 +1,19 @@
 -- Answers as numbers: a question's outcome from its number, and that no refusal is mistaken for an answer.
-use mathlib.Core.Path.{_≡_, refl, sym, ap, _∙_}
+use mathlib.Core.Path.{_≡_, refl, sym, ap, ap₂, _∙_}
 use mathlib.Core.Bool.{Bool, true, false}
 use mathlib.Core.List.{List}
 use native.Mathlib.Omega.{arith}
-use Prim.Native.Nat.{ℕ, zero, suc, _*_, _^_, _<_}
+use lib.ListN.{take, drop}
+use Prim.Native.Nat.{ℕ, zero, suc, _+_, _-_, _*_, _/_, _^_, _≤_, _<_}
 use Rattle.meaning.specs.Verdict.{Verdict, Stage, holds, fails, marks, merged}
+use Rattle.meaning.specs.File.Parser.{Got, found, fault}
+use Rattle.meaning.specs.File.Stretches.{Stretch, located, startOf, endOf}
 use Rattle.meaning.specs.Reference.Answers.{Outcome, refused, entries, outcomeNumber}
 use Rattle.cursor.specs.Answers.{number}
 use Rattle.cursor.specs.declared.Refusal.{Refusal}
-use Rattle.answers.specs.Outcomes.{outcomeCount, given, Judgement}
+use Rattle.answers.specs.Outcomes.{outcomeCount, given, Judgement, bytesOf, componentBytes}
+use Rattle.reader.specs.Outcomes.{faultNumber}
+use Rattle.stretch_query.proofs.Stretches.{inside, short}
 use Rattle.entry_queries.specs.declared.Written.{Written}
 use Rattle.entry_queries.specs.declared.Written.the-variants as written
 use Rattle.value_queries.specs.declared.Looked.{Looked}
@@ -19,6 +24,7 @@ use Rattle.entry_queries.specs.Written.{Answered, writtenNumber, writtenCount}
 use Rattle.value_queries.specs.Told.{lookedReply, judgedReply}
 use Rattle.entry_queries.proofs.Answering.{number-some}
 use Rattle.pinthar.specs.Numbers.{Returned, outcomeCode, writtenCode, lookupCode, truthCode, judgementCode, verdictCode}
+use Rattle.pinthar.specs.Numbers.{componentCode, placeIn, sizeIn}
 
 -- a refusal's code is not small
 refusal-large : {X : Type 0} (c : Refusal) → number c * 2 ^ 32 < 2 ^ 32 → X
@@ -79,3 +85,32 @@ pub judged-same : (a : Judged) (j : Judgement) → verdictCode (judgedReply a) �
 judged-same (judged.Marks h) j e = same-judgement _ j e
 judged-same (judged.Merged h) j e = same-judgement _ j e
 judged-same (judged.Refused c) j e = refusal-large c (omega (arith, e, small-code (j .verdict) (j .stage)))
+
+-- a component's part: the code of an answer, and of a refusal
+pub code-answered : (g : Got Stretch) → 0 ≡ faultNumber g → startOf g * 2 ^ 16 + (endOf g - startOf g) ≡ componentCode g
+code-answered (found s at) z = refl
+code-answered (fault r) z = omega (arith, z)
+
+pub code-refused : (g : Got Stretch) (c : Refusal) → number c ≡ faultNumber g → number c * 2 ^ 32 ≡ componentCode g
+code-refused (found s at) c e = absurd (number-some c e)
+code-refused (fault r) c e = ap (λ n. n * 2 ^ 32) e
+
+-- the upper 32 bits are the refusal's number, the lower 32 the place and the size
+pub record ComponentParts (g : Got Stretch) : Type 0 where
+  pub refusal : componentCode g / 2 ^ 32 ≡ faultNumber g
+  pub place : placeIn (componentCode g) ≡ startOf g
+  pub size : sizeIn (componentCode g) ≡ endOf g - startOf g
+
+code-parts : (g : Got Stretch) → startOf g ≤ endOf g → endOf g < 2 ^ 16 → ComponentParts g
+code-parts (found s at) l h = record { refusal = omega arith; place = omega arith; size = omega arith }
+code-parts (fault r) l h = record { refusal = omega arith; place = omega arith; size = omega arith }
+
+pub component-parts : (file : List ℕ) (c : ℕ) → ComponentParts (located file c)
+component-parts file c = code-parts (located file c) (inside file c .0) (short file c)
+
+-- so a caller gets the component's own bytes
+pub component-taken : (file : List ℕ) (c r : ℕ) → r ≡ componentCode (located file c)
+    → take (sizeIn r) (drop (placeIn r) file) ≡ componentBytes file c
+component-taken file c r e =
+    let p = component-parts file c in
+    ap (λ r. take (sizeIn r) (drop (placeIn r) file)) e ∙ ap₂ (λ n at. take n (drop at file)) (p .size) (p .place)

@@ -3,8 +3,10 @@ use mathlib.Core.Path.{_≡_}
 use mathlib.Core.Bool.{Bool, true, false}
 use mathlib.Core.List.{List}
 use lib.ListN.{length}
-use Prim.Native.Nat.{ℕ, _*_, _^_}
+use Prim.Native.Nat.{ℕ, _+_, _-_, _*_, _/_, _%_, _^_}
 use Rattle.meaning.specs.Verdict.{Verdict, Stage, holds, fails, marks, merged}
+use Rattle.meaning.specs.File.Parser.{Got, found, fault}
+use Rattle.meaning.specs.File.Stretches.{Stretch}
 use Rattle.meaning.specs.Reference.Answers.{Outcome, refused, entries, lentAfter}
 use Rattle.cursor.specs.Answers.{number}
 use Rattle.answers.specs.Outcomes.{Reply, given, denied, Judgement}
@@ -44,3 +46,15 @@ judgementCode holds merged = 3
 abbrev pub verdictCode : Reply Judgement → ℕ
 verdictCode (given j) = judgementCode (j .verdict) (j .stage)
 verdictCode (denied r) = r * 2 ^ 32
+
+-- a component's part of the file: the place where it begins, and below it, in the last 16 bits, how many bytes it has
+abbrev pub componentCode : Got Stretch → ℕ
+componentCode (found s at) = s .start * 2 ^ 16 + (s .end - s .start)
+componentCode (fault r) = r * 2 ^ 32
+
+-- what a caller takes from that number
+abbrev pub placeIn : ℕ → ℕ
+placeIn r = r % 2 ^ 32 / 2 ^ 16
+
+abbrev pub sizeIn : ℕ → ℕ
+sizeIn r = r % 2 ^ 16

@@ -3,3 +3,4 @@ pub mod Files
 pub mod Places
 pub mod Forward
 pub mod Stretched
+pub mod Ended

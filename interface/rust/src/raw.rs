@@ -36,13 +36,7 @@ extern "C" {
         s3: u32,
     ) -> u64;
     pub fn pinthar_verdict(file: *const u8, file_size: usize) -> u64;
-    pub fn pinthar_component(
-        file: *const u8,
-        file_size: usize,
-        component: u32,
-        start: *mut usize,
-        size: *mut usize,
-    ) -> u64;
+    pub fn pinthar_component(file: *const u8, file_size: usize, component: u32) -> u64;
 }
 
 /// A function that writes entries.

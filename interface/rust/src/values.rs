@@ -39,11 +39,10 @@ pub fn verdict(file: &[u8]) -> Result<Verdict, Refusal> {
 
 /// A component's own part of the file, from its state count to its last successor set.
 pub fn component(file: &[u8], component: u32) -> Result<&[u8], Refusal> {
-    let (mut start, mut size) = (0, 0);
-    // SAFETY: the slice is valid for its length, the numbers are there to be written, and the stack is large enough.
-    let result = with_room(|| unsafe {
-        raw::pinthar_component(file.as_ptr(), file.len(), component, &mut start, &mut size)
-    });
-    answer(result)?;
-    Ok(&file[start..start + size])
+    // SAFETY: the slice is valid for its length, and the stack is large enough.
+    let result =
+        with_room(|| unsafe { raw::pinthar_component(file.as_ptr(), file.len(), component) });
+    let code = answer(result)? as usize;
+    let (place, size) = (code >> 16, code & 0xffff);
+    Ok(&file[place..place + size])
 }

@@ -29,6 +29,8 @@ fn ask_everything() {
     assert_eq!(verdict(&[]), Err(Refusal::FileEnds));
     assert_eq!(component(&PAIR, 1), Ok(&PAIR[13..21]));
     assert_eq!(component(&PAIR, 2), Err(Refusal::OutsideRange));
+    let long = [&PAIR[..], &[0; 1 << 17]].concat();
+    assert_eq!(component(&long, 1), Err(Refusal::BytesAfterStarts));
 }
 
 #[test]
