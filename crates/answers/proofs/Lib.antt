@@ -2,3 +2,5 @@ pub mod Means
 pub mod Starts
 pub mod Limit
 pub mod Inhabited
+pub mod Printed
+pub mod Asked
