@@ -1,8 +1,8 @@
 -- A text in front of the buffer.
-use mathlib.Core.Path.{_≡_, ap₂, subst, _∙_}
+use mathlib.Core.Path.{_≡_, sym, ap₂, subst, _∙_}
 use mathlib.Core.List.{List}
 use lib.ListN.{length}
-use lib.Seq.{sets}
+use lib.Seq.{sets, length-take-le}
 use native.Mathlib.Omega.{arith}
 use Prim.Native.Nat.{ℕ, _+_, _≤_}
 use Rattle.meaning.specs.File.Promise.{listingBytes}
@@ -14,7 +14,8 @@ use Rattle.text.specs.Texts.{textOf}
 use Rattle.report.specs.Report.{Spelled, bytesIn}
 use Rattle.report.proofs.Copies.{copied, spelled-count}
 use Rattle.lines.specs.Made.{Made}
-use Rattle.answer_text.specs.Settled.{Settled}
+use Rattle.lines.proofs.Appending.{made-fits}
+use Rattle.answer_text.specs.Settled.{Settled, Counts}
 
 pub spelled : (text : Text) (l : List ℕ) → text ≡ textOf l → length l ≤ 2048 → Spelled text l
 spelled text l e h = record { same = e; short = h }
@@ -42,3 +43,8 @@ settled line file q e m =
       longer =
           λ all h. made-same (ap₂ printed e h ∙ text-settled (questionOf line) all) m;
     }
+
+pub made-counts : {l old new : List ℕ} {r : ℕ} → Made l r old new → Counts r new
+made-counts {l} {old} {new} {r} m =
+    let h = made-fits m in
+    (h, sym (length-take-le r new h))

@@ -15,7 +15,7 @@ ghost use Rattle.answers.specs.Printed.{printed};
 ghost use Rattle.arguments.specs.Asked.{asks};
 ghost use Rattle.report.specs.Report.{Spelled};
 ghost use Rattle.lines.specs.Made.{Made};
-ghost use Rattle.answer_text.specs.Settled.{Settled};
+ghost use Rattle.answer_text.specs.Settled.{Settled, Counts};
 
 // A program reads the first bytes of a file, so many at most: they settle every longer input too (clause `longer`).
 pub const FILE_BYTES: usize = 16385;
@@ -55,10 +55,12 @@ fn question_text(asked: Question, file: &[u8], out: &mut [u8; TEXT_BYTES]) -> us
     }
 }
 
-// The text for the question that a line of words asks about a file, in front of the buffer, and how many bytes it has.
+// The text for the question that a line of words asks about a file, in front of the buffer, and how many bytes it has. The clause `counts` follows
+// from `answer`; callers take `&out[..r]` by it.
 pub fn answer_text(question: &[u8], file: &[u8], out: &mut [u8; TEXT_BYTES]) -> usize
     ensures answer { λ r. ⌜ Made (printed (questionOf (now (question .entry))) (now (file .entry))) r (now (out .entry)) (now (out .exit)) ⌝ }
     ensures longer { λ r. do ⌜ Settled (← ⟦FILE_BYTES⟧ .entry) (now (question .entry)) (now (file .entry)) r (now (out .entry)) (now (out .exit)) ⌝ }
+    ensures counts { λ r. ⌜ Counts r (now (out .exit)) ⌝ }
 {
     question_text(arguments::question_of(question), file, out)
 }

@@ -10,23 +10,28 @@ ghost use Prim.Native.Nat.{_≤_};
 ghost use lib.ListN.{length};
 ghost use Rattle.io.specs.Counts.{Counts};
 
+// Argument i put into the line at a place; the place after it. One that does not fit is none.
+fn append_argument(line: &mut [u8], at: usize, i: usize) -> usize
+    requires { ⌜ at ≤ length (now line) ⌝ }
+    ensures { λ r. ⌜ r ≤ length (now (line .exit)) ⌝ }
+{
+    at + os::arg(i, &mut line[at..])
+}
+
 // The arguments after the program's name in front of the line, with one space between them. No question is longer than the line: what does not
 // fit is none.
 fn argument_line(line: &mut [u8]) -> usize
-    ensures { λ r. ⌜ r ≤ length (now (line .exit)) ⌝ }
+    ensures { λ r. ⌜ Counts r (now (line .exit)) ⌝ }
 {
     let count = os::arg_count();
-    let mut at: usize = 0;
-    let mut i: usize = 1;
+    let mut at = append_argument(line, 0, 1);
+    let mut i: usize = 2;
     while i < count {
-        if 1 < i {
-            if line.len() <= at {
-                return 0;
-            }
-            line[at] = b' ';
-            at += 1;
+        if line.len() <= at {
+            return 0;
         }
-        at += os::arg(i, &mut line[at..]);
+        line[at] = b' ';
+        at = append_argument(line, at + 1, i);
         i += 1;
     }
     at

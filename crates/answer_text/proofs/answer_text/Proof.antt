@@ -1,7 +1,7 @@
 use mathlib.Core.Path.{ap}
 use borrow.Author.Needs.{needs}
 use Rattle.answers.specs.Printed.{printed}
-use Rattle.answer_text.proofs.Buffers.{made-same, settled}
+use Rattle.answer_text.proofs.Buffers.{made-same, settled, made-counts}
 use Rattle.answer_text.proofs.answer_text.Statement.{statement}
 use Rattle.answer_text.proofs.answer_text.Tie as tie
 
@@ -11,7 +11,7 @@ returns c =
     let a = q .before .before .before .args in
     let m = c .question-text .ensures in (
       made-same (ap (λ q. printed q (a .file .now)) (q .question-of .ensures)) m,
-      settled (a .question .now) (a .file .now) _ (q .question-of .ensures) m,
+      (settled (a .question .now) (a .file .now) _ (q .question-of .ensures) m, made-counts m),
     )
 
 pub answer-text-spec : {M : Type 1} → statement M
