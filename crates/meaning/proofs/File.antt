@@ -15,9 +15,11 @@ pub mod NodeLists
 pub mod Reads
 pub mod Accepted
 pub mod Limit
+pub mod Faults
+-- How long a good file is: as its numbers are, at most 10,771 bytes, and one has that many.
 pub mod Sizes
 pub mod Longest
-pub mod Faults
 pub mod Written
 pub mod LongestFile
+-- The pair and the chain as they are read.
 pub mod Examples
