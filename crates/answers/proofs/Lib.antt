@@ -1,2 +1,3 @@
 pub mod Means
 pub mod Starts
+pub mod Parts

@@ -15,3 +15,7 @@ pub mod NodeLists
 pub mod Reads
 pub mod Accepted
 pub mod Limit
+-- A component's stretch of the file
+pub mod Forward
+pub mod Stretched
+pub mod Ended

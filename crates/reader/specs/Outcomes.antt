@@ -23,9 +23,9 @@ abbrev pub layoutOf : Got Contents → Instrument
 layoutOf (found k at) = layout k
 layoutOf (fault r) = layout nothing
 
--- an outcome tells what was found: accepted where it is contents, refused by the number of the fault where it is none
-abbrev pub Tells : Outcome → Got Contents → Type 0
-Tells Accepted (found k at) = Unit {0}
+-- an outcome tells whether something was found: accepted where it was, refused by the number of the fault where it was not
+abbrev pub Tells : {A : Type 0} → Outcome → Got A → Type 0
+Tells Accepted (found a at) = Unit {0}
 Tells Accepted (fault r) = ⊥
-Tells (Refused cause) (found k at) = ⊥
+Tells (Refused cause) (found a at) = ⊥
 Tells (Refused cause) (fault r) = number cause ≡ r

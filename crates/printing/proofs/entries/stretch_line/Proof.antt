@@ -21,7 +21,7 @@ component-bytes-requires c κs = search needs
 hexadecimal-line-requires : tie.Need-hexadecimal-line-requires
 hexadecimal-line-requires c κs =
     let s = c .before .before .before .before .before in
-    part-short (s .args .file .now) (s .args .component) (c .component-bytes .result .now) (c .component-bytes .ensures) (s .pre)
+    part-short (s .args .file .now) (s .args .component) (c .component-bytes .result .now) (c .component-bytes .ensures .0) (s .pre)
 
 returns : tie.Need-returns
 returns c = search needs

@@ -7,15 +7,15 @@ use lib.Dec.{T, leb, ltb, leb→le, lit<}
 use lib.ListN.{length}
 use native.Mathlib.Omega.{arith}
 use Prim.Native.Nat.{ℕ, _+_, _*_, _^_, _≤_, _<_}
-use Rattle.meaning.specs.File.Parser.{Got, found, fault, Done, demand, on, repeat}
+use Rattle.meaning.specs.File.Parser.{Got, found, fault, demand, on, repeat}
 use Rattle.meaning.specs.File.Number.{choose}
 use Rattle.meaning.specs.File.Grammar.{Contents, limits, between, components, nodes, start, finished, drivenBy, whole, readFile}
 use Rattle.meaning.specs.File.Stretches.{Stretch, stretchOf, located, startOf, endOf}
 use Rattle.meaning.proofs.File.Lists.{Says, found-says}
 use Rattle.meaning.proofs.File.Numbers.{width}
 use Rattle.meaning.proofs.File.Parsers.{reads-found}
 use Rattle.meaning.proofs.File.Reads.{fileNumbers, reads-whole}
-use Rattle.reader.proofs.Stretched.{Lies, says-on, located-lies}
+use Rattle.meaning.proofs.File.Stretched.{says-on, located-lies}
 
 module _ (file : List ℕ) where
   abbrev Ends : Contents → ℕ → Type 0
@@ -53,3 +53,18 @@ module _ (file : List ℕ) where
           → on g (λ k end. choose (ltb c (length (k .components))) (stretchOf c file 0) (fault 3)) ≡ found s at → s .end < 2 ^ 16
       go (found k end) r q = omega (arith, accepted-short k end r, located-lies file c s at e .within)
       go (fault n) r q = let z : _≡_ {A = ℕ} 0 1 = cc in let y : ⊥ = omega arith in absurd y
+
+-- the two places, also where the question is refused: from 0 to 0
+pub inside : (file : List ℕ) (c : ℕ) → (startOf (located file c) ≤ endOf (located file c)) × (endOf (located file c) ≤ length file)
+inside file c = go (located file c) refl
+  where
+    go : (g : Got Stretch) → located file c ≡ g → (startOf g ≤ endOf g) × (endOf g ≤ length file)
+    go (found s e) q = let l = located-lies file c s e q in (omega (arith, l .some), l .within)
+    go (fault r) q = (omega arith, omega arith)
+
+pub short : (file : List ℕ) (c : ℕ) → endOf (located file c) < 2 ^ 16
+short file c = go (located file c) refl
+  where
+    go : (g : Got Stretch) → located file c ≡ g → endOf g < 2 ^ 16
+    go (found s e) q = located-short file c s e q
+    go (fault r) q = omega arith
