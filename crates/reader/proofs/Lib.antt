@@ -1,3 +1,4 @@
 pub mod Grammar
 pub mod Files
 pub mod Places
+pub mod Found

@@ -1,4 +1,3 @@
-use Rattle.entry_queries.proofs.Answering.{found-by}
 use borrow.Author.Needs.{needs}
 use Rattle.printing.proofs.entries.mark_lines.Statement.{statement}
 use Rattle.printing.proofs.entries.mark_lines.Tie as tie
@@ -19,8 +18,7 @@ marks-of-requires : tie.Need-marks-of-requires
 marks-of-requires c κs =
     let r = c .before .before .before in
     let s = r .before .before .before in
-    let h = found-by (s .args .file .now) (r .read .result .instrument) (r .read .result .outcome) (c .before .enum-told .given .1) (r .read .ensures .0)
-    (r .read .ensures .1) in
+    let h = r .read .ensures .1 .1 (c .before .enum-told .given .1) in
     ((h .contents, h .describes), s .pre)
 
 returns : tie.Need-returns
