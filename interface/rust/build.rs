@@ -1,5 +1,5 @@
 //! Links target/staticlib/libpinthar.a, which `rt staticlib pinthar` makes in the repository. The variable
-//! PINTHAR_ARCHIVE names another folder that has it.
+//! PINTHAR_ARCHIVE names another folder that has it. Checking this crate needs no archive, building it does.
 
 use std::env;
 use std::path::PathBuf;
@@ -13,7 +13,10 @@ fn main() {
     };
     let archive = folder.join("libpinthar.a");
     if !archive.exists() {
-        panic!("{} is missing: run `rt staticlib pinthar` in the repository", archive.display());
+        let archive = archive.display();
+        println!(
+            "cargo:warning={archive} is missing: run `rt staticlib pinthar` in the repository"
+        );
     }
     println!("cargo:rerun-if-env-changed=PINTHAR_ARCHIVE");
     println!("cargo:rerun-if-changed={}", archive.display());

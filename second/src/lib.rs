@@ -3,6 +3,7 @@
 //! Everything here is literal: sets are lists of levels, and loops go over
 //! everything. Section names in the comments are those of document 01.
 
+pub mod answer;
 pub mod bench;
 pub mod check;
 pub mod classes;
@@ -26,6 +27,7 @@ pub mod partners;
 pub mod paths;
 pub mod prng;
 pub mod queries;
+pub mod question;
 pub mod reader;
 pub mod reading;
 pub mod reduce;

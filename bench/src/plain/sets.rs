@@ -14,7 +14,7 @@ pub fn remove(set: &mut Set, s: usize) {
 pub fn below(n: usize) -> Set {
     let mut set = [0; 64];
     set[..n / 64].fill(u64::MAX);
-    if n % 64 > 0 {
+    if !n.is_multiple_of(64) {
         set[n / 64] = (1 << (n % 64)) - 1;
     }
     set

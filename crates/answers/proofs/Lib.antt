@@ -1,3 +1,5 @@
 pub mod Means
 pub mod Starts
 pub mod Parts
+pub mod Limit
+pub mod Inhabited

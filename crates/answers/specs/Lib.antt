@@ -1,4 +1,6 @@
 pub mod Outcomes
 pub mod Listing
 pub mod Lines
+pub mod Questions
+pub mod Printed
 pub mod Means

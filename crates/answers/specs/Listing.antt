@@ -71,11 +71,13 @@ sizeLine m f = mergedLabel ++ (decimal m ++ (ofLabel ++ (decimal f ++ lineEnd)))
 unfoldable pub refusalLine : ℕ → List ℕ
 refusalLine r = refusedLabel ++ (decimal r ++ lineEnd)
 
+-- the class lines of all components
+abbrev pub classLines : Instrument → List ℕ
+classLines I = joinBelow (components I) (λ i. classLine i (table I i .states) (classesAt I i))
+
 -- all lines
 unfoldable pub listingText : Instrument → Judgement → List ℕ
-listingText I j =
-    verdictLine j
-    ++ (joinBelow (components I) (λ i. classLine i (table I i .states) (classesAt I i)) ++ sizeLine (mergedSize I) (fullCount I))
+listingText I j = verdictLine j ++ (classLines I ++ sizeLine (mergedSize I) (fullCount I))
 
 -- refused as the verdict is; then 13 if the text does not fit
 abbrev pub listed : Instrument → ℕ → Reply Judgement → Outcome

@@ -12,7 +12,8 @@ use Rattle.meaning.specs.Reference.Tests.{allBelow}
 use Rattle.meaning.proofs.Basic.Booleans.{and-in, and-l, and-r, is-true, is-false}
 use Rattle.meaning.proofs.Basic.Bounded.{all-out, last-or}
 use Rattle.arguments.specs.declared.Argument.the-variants.{Number, Unusable}
-use Rattle.arguments.specs.Decimal.{digitAt, valueOf, usable, argumentOf, Digits}
+use Rattle.answers.specs.Questions.{digitAt, valueBefore, isNumber}
+use Rattle.arguments.specs.Decimal.{argumentOf, Digits}
 
 ten-up : (n i : ℕ) → i < suc n → 10 ^ i ≤ 10 ^ n
 ten-up zero i l = let e : i ≡ 0 = omega arith in rw e (omega arith)
@@ -47,9 +48,9 @@ module _ (text : List ℕ) where
   bound {i} {v} d = omega (arith, d .small, ten-up 10 i (omega (arith, d .reached, d .short)))
 
   -- the answers
-  unusable-if : (T (usable text) → ⊥) → Unusable ≡ argumentOf text
+  unusable-if : (T (isNumber text) → ⊥) → Unusable ≡ argumentOf text
   unfolding argumentOf
-  unusable-if h = rw (is-false (usable text) h) refl
+  unusable-if h = rw (is-false (isNumber text) h) refl
 
   abbrev n : ℕ
   n = length text
@@ -58,14 +59,14 @@ module _ (text : List ℕ) where
   A = allBelow n (digitAt text)
 
   abbrev B : Bool
-  B = leb (valueOf text n) 4294967295
+  B = leb (valueBefore text n) 4294967295
 
   pub not-long : (1 ≤ n → n ≤ 10 → ⊥) → Unusable ≡ argumentOf text
   not-long h =
       unusable-if (λ u. h (leb→le 1 n (and-l (leb 1 n) (leb n 10 && (A && B)) u))
       (leb→le n 10 (and-l (leb n 10) (A && B) (and-r (leb 1 n) (leb n 10 && (A && B)) u))))
 
-  tests : T (usable text) → T (A && B)
+  tests : T (isNumber text) → T (A && B)
   tests u = and-r (leb n 10) (A && B) (and-r (leb 1 n) (leb n 10 && (A && B)) u)
 
   pub not-digit : (i : ℕ) → i < n → (48 ≤ getD text i 0 → getD text i 0 ≤ 57 → ⊥) → Unusable ≡ argumentOf text
@@ -78,16 +79,16 @@ module _ (text : List ℕ) where
   pub too-large : {i v : ℕ} → i ≡ n → Digits text i v → 4294967295 < v → Unusable ≡ argumentOf text
   too-large {i} {v} e d h =
       unusable-if (λ u.
-      let q : valueOf text n ≤ 4294967295 = leb→le (valueOf text n) 4294967295 (and-r A B (tests u)) in
-      let s : v ≡ valueOf text n = d .value ∙ ap (valueOf text) e in
+      let q : valueBefore text n ≤ 4294967295 = leb→le (valueBefore text n) 4294967295 (and-r A B (tests u)) in
+      let s : v ≡ valueBefore text n = d .value ∙ ap (valueBefore text) e in
       omega arith)
 
   pub is-number : {i v : ℕ} → i ≡ n → Digits text i v → v ≤ 4294967295 → Number v ≡ argumentOf text
   unfolding argumentOf
   is-number {i} {v} e d h =
-      let s : v ≡ valueOf text n = d .value ∙ ap (valueOf text) e in
-      rw (is-true (usable text)
+      let s : v ≡ valueBefore text n = d .value ∙ ap (valueBefore text) e in
+      rw (is-true (isNumber text)
       (and-in (leb 1 n) (leb n 10 && (A && B)) (le→leb 1 n (d .some))
       (and-in (leb n 10) (A && B) (le→leb n 10 (d .short))
       (and-in A B (subst T (sym (subst (λ k. allBelow k (digitAt text) ≡ true) e (d .all))) tt)
-      (le→leb (valueOf text n) 4294967295 (subst (λ w. w ≤ 4294967295) s h)))))) (ap Number s)
+      (le→leb (valueBefore text n) 4294967295 (subst (λ w. w ≤ 4294967295) s h)))))) (ap Number s)

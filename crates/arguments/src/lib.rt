@@ -1,4 +1,11 @@
-// Numbers given to a program as text: one to ten decimal digits, at most 2^32 - 1 in value.
+// What a line of words asks (crate answers, specs/Questions): words with one space between them, and numbers of one to ten decimal digits, at most
+// 2^32 - 1 in value.
+mod question; // question.rt: the question of a line
+mod line; // line.rt: the words of a line, and their numbers
+
+pub use line::Numbers;
+pub use question::Question;
+pub use question::question_of;
 ghost use mathlib.Core.Path.{_≡_};
 ghost use Rattle.arguments.specs.Decimal.{argumentOf};
 

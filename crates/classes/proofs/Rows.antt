@@ -19,11 +19,6 @@ row-at n b x m l = padded-at 32 n (λ x. built n (b x)) x l m
 pub rel-rows : (n : ℕ) (b : ℕ → ℕ → Bool) (x y : ℕ) → n ≤ 32 → x < n → y < n → rel (rows n b) x y ≡ b x y
 rel-rows n b x y m l k = ap (λ w. has w y) (row-at n b x m l) ∙ has-built n (b x) y k
 
--- related states are below the count
-pub record Inside (n x y : ℕ) : Type 0 where
-  pub first : x < n
-  pub second : y < n
-
 -- tests that agree below n have the same rows
 pub rows-same : (n : ℕ) (b c : ℕ → ℕ → Bool) → n ≤ 32 → ((x y : ℕ) → x < n → y < n → b x y ≡ c x y) → rows n b ≡ rows n c
 unfolding rows

@@ -1,7 +1,7 @@
 -- A node that was read, as its kind and operands, and so many of them (document 01, The instrument file).
 use mathlib.Core.List.{List}
 use Prim.Native.Nat.{ℕ}
-use Rattle.meaning.specs.File.Parser.{Got, found, fault, Parser, on, _>>=_, give}
+use Rattle.meaning.specs.File.Parser.{Got, found, fault, Parser, _>>=_, give}
 use Rattle.meaning.specs.File.Grammar.{limits, earlier}
 use Rattle.cursor.specs.Answers.{number}
 use Rattle.instrument.specs.declared.Node.{Node}

@@ -3,7 +3,7 @@ use mathlib.Core.List.{List, [], _∷_, _++_, map}
 use lib.ListN.{length}
 use Prim.Native.Nat.{ℕ}
 use Rattle.meaning.specs.Nodes.{Node}
-use Rattle.meaning.specs.File.Parser.{on, _>>=_, give}
+use Rattle.meaning.specs.File.Parser.{_>>=_, give}
 use Rattle.meaning.specs.File.Grammar.{Contents, limits, between, node, start, drivenBy}
 use Rattle.parsing.specs.Stages.{Stage, times}
 

@@ -2,9 +2,8 @@
 pub mod Tests
 pub mod Component
 pub mod FixedPoints
--- the rules: as the code makes them, and what they mean
+-- the rules as the code makes them
 pub mod Rules
-pub mod Described
 -- for a whole formula on a component's table
 pub mod Formulas
 pub mod Signals

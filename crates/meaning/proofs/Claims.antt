@@ -28,7 +28,7 @@ use Rattle.meaning.proofs.File.Nodes.{beneath-under}
 use Rattle.meaning.proofs.Marks.Laws.{Fits}
 use Rattle.meaning.proofs.Marks.Signals.{signals-local, whole-fit}
 -- DEMAND 3, marks beside partners: marks-beside by the meaning, computed-beside of what is computed
-pub use Rattle.meaning.proofs.Marks.Partners.{marks-beside, computed-beside}
+pub use Rattle.meaning.proofs.Marks.Partners.{marks-beside, computed-beside, other-partners}
 -- what Described says of one table: sets largest and least, relations largest, names of classes
 pub use Rattle.meaning.proofs.Classes.Described.{Described, described}
 -- related for a signal: foreign, or the same level

@@ -15,6 +15,12 @@ pub mod NodeLists
 pub mod Reads
 pub mod Accepted
 pub mod Limit
+pub mod Sizes
+pub mod Longest
+pub mod Faults
+pub mod Written
+pub mod LongestFile
+pub mod Examples
 -- A component's stretch of the file
 pub mod Forward
 pub mod Stretched

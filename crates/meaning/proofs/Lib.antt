@@ -9,3 +9,4 @@ pub mod Demands
 pub mod Cases
 pub mod Counterexamples
 pub mod Claims
+pub mod Inhabited

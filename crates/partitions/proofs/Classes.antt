@@ -1,19 +1,13 @@
--- What callers need of the names: the name of each state, that it is a state and the lowest of its class, and how many names there are.
+-- What callers need of the names: the name of each state, and how many names there are.
 use mathlib.Core.Path.{_≡_, refl, ap, ap₂, _∙_}
 use mathlib.Core.List.{[]}
 use lib.ListN.{length, getD, replicate, length-append, length-replicate}
 use native.Mathlib.Omega.{arith}
 use Prim.Native.Nat.{ℕ, zero, suc, _+_, _≤_, _<_}
-use Rattle.meaning.specs.Classes.{ClassNames}
-use Rattle.meaning.specs.Instrument.{Accepted, Instrument, components, table, rootFormula}
+use Rattle.meaning.specs.Instrument.{Instrument, components, table}
 use Rattle.meaning.specs.File.Grammar.{Contents, instrumentOf}
-use Rattle.meaning.specs.Relation.{Rel}
-use Rattle.meaning.specs.View.{wholeWords}
 use Rattle.meaning.specs.Reference.Answers.{listBelow, joinBelow, classesAt, classNames}
 use Rattle.meaning.proofs.Basic.Entries.{list-length}
-use Rattle.meaning.proofs.Basic.Equivalence.{Equivalence}
-use Rattle.meaning.proofs.Claims.{described-01, classes-01}
-use Rattle.meaning.proofs.Classes.Names as named
 use Rattle.instrument.specs.declared.Instrument as stored
 use Rattle.instrument.specs.Described.{Describes}
 use Rattle.instrument.proofs.Bounds.{count-bounds, states-bounds}
@@ -21,20 +15,6 @@ use Rattle.instrument.proofs.Tables.{table-count, table-states}
 use Rattle.classes.proofs.Padded.{padded-at}
 use Rattle.relations.proofs.NodeRelations.{front-at}
 use Rattle.partitions.specs.Classes.{tableClasses, componentClasses, noNames, classesOf, sumBelow, stateSum}
-
--- names are states, at most the state itself, and name themselves
-module _ (I : Instrument) (accepted : Accepted I) (i : ℕ) (l : i < components I) where
-  abbrev R : ℕ → ℕ → Type 0
-  R = Rel (table I i) (wholeWords (table I i)) (rootFormula I)
-
-  equivalence : Equivalence (table I i) R
-  equivalence = described-01 I accepted i l .relation (rootFormula I) .1
-
-  names : ClassNames (table I i) R (classesAt I i)
-  names = classes-01 I accepted i l
-
-  pub class-lt : (x : ℕ) → x < table I i .states → classesAt I i x < table I i .states
-  class-lt = named.name-lt (table I i) R equivalence (classesAt I i) names
 
 -- what stands at a component's and a state's place
 pub row-at : (I : Instrument) → components I ≤ 4 → (i : ℕ) → i < components I → getD (classesOf I) i [] ≡ componentClasses I i

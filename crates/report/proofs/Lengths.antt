@@ -13,7 +13,7 @@ use Rattle.meaning.specs.Reference.Answers.{joinBelow, classesAt, mergedSize, f
 use Rattle.meaning.proofs.File.Accepted.{count-is, table-is, promised-at}
 use Rattle.answers.specs.Outcomes.{Judgement}
 use Rattle.answers.specs.Listing.{decimal, space, lineEnd, classesLabel, ofLabel, verdictWord, stageWord}
-use Rattle.answers.specs.Listing.{verdictLine, classLine, sizeLine, refusalLine, listingText}
+use Rattle.answers.specs.Listing.{verdictLine, classLine, classLines, sizeLine, refusalLine, listingText}
 use Rattle.text.proofs.Texts.{decimal-length}
 use Rattle.report.specs.Report.{spacedNames}
 
@@ -77,17 +77,14 @@ pub lines-short : (n : ℕ) (states : ℕ → ℕ) (names : ℕ → ℕ → ℕ)
 lines-short n states names h =
     join-short 381 n (λ i. classLine i (states i) (names i)) (λ i l. class-line-short i (states i) (names i) (h i l))
 
-abbrev linesOf : Instrument → List ℕ
-linesOf I = joinBelow (components I) (λ i. classLine i (table I i .states) (classesAt I i))
-
 listing-short : (I : Instrument) (j : Judgement) → components I ≤ 4 → ((i : ℕ) → i < components I → table I i .states ≤ 32)
     → length (listingText I j) ≤ 2048
 unfolding listingText
 listing-short I j few h =
     omega (
       arith,
-      length-append (verdictLine j) (linesOf I ++ sizeLine (mergedSize I) (fullCount I)),
-      length-append (linesOf I) (sizeLine (mergedSize I) (fullCount I)),
+      length-append (verdictLine j) (classLines I ++ sizeLine (mergedSize I) (fullCount I)),
+      length-append (classLines I) (sizeLine (mergedSize I) (fullCount I)),
       verdict-line-short j,
       lines-short (components I) (λ i. table I i .states) (classesAt I) h,
       size-line-short (mergedSize I) (fullCount I),
@@ -100,6 +97,14 @@ module _ (k : Contents) (p : Promised limits k) where
 
   pub few-states : (i : ℕ) → i < components (instrumentOf k) → table (instrumentOf k) i .states ≤ 32
   few-states i l = rw (table-is k i) (promised-at limits k p i (omega (arith, count-is k)) .states .1)
+
+  pub classes-length : length (classLines (instrumentOf k)) ≤ 1524
+  classes-length =
+      omega (
+        arith,
+        lines-short (components (instrumentOf k)) (λ i. table (instrumentOf k) i .states) (classesAt (instrumentOf k)) few-states,
+        few-components,
+      )
 
   -- a buffer of 2048 bytes has room for the listing
   pub listing-length : (j : Judgement) → length (listingText (instrumentOf k) j) ≤ 2048

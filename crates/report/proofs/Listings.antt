@@ -8,9 +8,10 @@ use Prim.Native.Nat.{ℕ, _+_, _*_, _≤_, _<_}
 use Rattle.meaning.specs.Instrument as meaning
 use Rattle.meaning.specs.Instrument.{components, table}
 use Rattle.meaning.specs.File.Grammar.{Contents, instrumentOf}
-use Rattle.meaning.specs.Reference.Answers.{joinBelow, classesAt}
+use Rattle.meaning.specs.Reference.Answers.{classesAt}
 use Rattle.meaning.proofs.Basic.Entries.{join-same}
 use Rattle.answers.specs.Outcomes.{Judgement}
+use Rattle.answers.specs.Listing as listing
 use Rattle.answers.specs.Listing.{decimal, space, lineEnd, componentLabel, classesLabel, verdictLine, classLine, sizeLine, listingText}
 use Rattle.instrument.specs.declared.Instrument.{Instrument}
 use Rattle.instrument.specs.Described.{Describes}
@@ -49,8 +50,7 @@ module _ (t : Instrument) (k : Contents) (d : Describes t k) where
   described-short n names h =
       lines-short n (λ i. getD (t .states) i 0) (λ i x. getD (getD names i []) x 0) (λ i l. states-bounds t k d i (omega arith) .1)
 
-  lines-same : (names : List (List ℕ)) → names ≡ classesOf I
-      → classLines (t .components) (t .states) names ≡ joinBelow (components I) (λ i. classLine i (table I i .states) (classesAt I i))
+  pub lines-same : (names : List (List ℕ)) → names ≡ classesOf I → classLines (t .components) (t .states) names ≡ listing.classLines I
   lines-same names e =
       rw (e, ← table-count t k d)
       (join-same (components I) (λ i. classLine i (getD (t .states) i 0) (λ x. getD (getD (classesOf I) i []) x 0))

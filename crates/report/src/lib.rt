@@ -6,7 +6,9 @@ ghost use lib.ListN.{length};
 ghost use lib.Seq.{sets};
 ghost use Rattle.meaning.specs.File.Grammar.{Contents, instrumentOf};
 ghost use Rattle.meaning.specs.Reference.Answers.{entries, lentAfter};
-ghost use Rattle.answers.specs.Listing.{listingText, refusalLine};
+ghost use Rattle.instrument.specs.Described.{Describes};
+ghost use Rattle.partitions.specs.Classes.{classesOf};
+ghost use Rattle.answers.specs.Listing.{classLines, listingText, refusalLine};
 ghost use Rattle.text.specs.Texts.{textOf};
 ghost use Rattle.report.specs.Report.{judgementFrom, Listed, Spelled, bytesIn};
 
@@ -35,6 +37,15 @@ pub fn listing_text(
     let judged = verdict_line(empty, holds, by_marks);
     let named = class_lines(judged, t, names);
     size_line(named, merged as u32, full as u32)
+}
+
+// The class names of every component alone.
+pub fn class_text(t: Instrument, names: [[u8; 32]; 4]) -> Text
+    requires { ⌜ ((k : Contents) × Describes t k) ⌝ }
+    ensures { λ r. ⌜ ((k : Contents) → Describes t k → names ≡ classesOf (instrumentOf k) → r ≡ textOf (classLines (instrumentOf k))) ⌝ }
+{
+    let empty = Text::empty();
+    class_lines(empty, t, names)
 }
 
 // The one line of a refusal.

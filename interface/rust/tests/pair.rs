@@ -44,18 +44,31 @@ fn on_one_thread_with_enough() {
     on_stack(ask_everything);
 }
 
-/// Deep in its own work a thread of `on_stack` no longer has enough.
+/// Goes down the stack until the work has so many bytes of it above itself.
+fn at_depth(bytes: usize, work: &dyn Fn()) {
+    fn down(begin: usize, bytes: usize, work: &dyn Fn()) {
+        let here = std::hint::black_box([0u8; 1 << 14]);
+        if begin.saturating_sub(here.as_ptr() as usize) < bytes {
+            down(begin, bytes, work);
+        } else {
+            work();
+        }
+        std::hint::black_box(&here);
+    }
+    let begin = 0u8;
+    down(&begin as *const u8 as usize, bytes, work);
+}
+
+/// Deep in its own work a thread of `on_stack` no longer has enough: 3 of its 16 MB are left, and the full way of 4,096
+/// states takes more than 4.
 #[test]
 fn deep_in_the_work() {
-    fn down(depth: usize) -> u8 {
-        let here = std::hint::black_box([depth as u8; 1 << 20]);
-        if depth == 0 {
-            ask_everything();
-            return here[0];
-        }
-        down(depth - 1) + here[1]
-    }
-    on_stack(|| down(10));
+    let large = include_bytes!("../../../crates/cases/data/sizes_32_32_4");
+    let ask = || {
+        ask_everything();
+        assert_eq!(full_words(large, &mut vec![0; MOST_WORDS]), Ok(4096));
+    };
+    on_stack(|| at_depth(13 << 20, &ask));
 }
 
 #[test]

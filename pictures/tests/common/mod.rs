@@ -3,15 +3,14 @@
 pub mod xml;
 
 use pictures::answers::Answers;
-use second::command::file_queries::reply;
+use second::answer::answer;
+use second::queries::Queries;
 use xml::Element;
 
 /// Answers in the program's format; tests of the drawing need no proved ones.
 pub fn answers(file: &[u8]) -> Answers {
-    let text = |question: &str| {
-        let reply = reply(&[question], || file.to_vec()).expect("a known question");
-        String::from_utf8(reply).expect("an answer in ASCII")
-    };
+    let queries = Queries::of(file);
+    let text = |question: &str| answer(question, &queries);
     Answers::of_texts(&text("classes"), &text("marks"), &text("verdict")).expect("an answer")
 }
 

@@ -3,22 +3,25 @@
 use std::io::Write;
 use std::process::{Command, Stdio};
 
-use super::file_queries::reply;
 use super::Outcome;
-use crate::limits;
-use crate::reader::read;
+use crate::answer::answer;
+use crate::queries::Queries;
 use crate::store::{cases, Case};
 
-/// Asks each kind of question of every stored case; exit code 1 at the first
-/// answer that is not this checker's.
+/// Asks, of every stored case, the questions whose first word is one of the
+/// kinds, or all if there is none; exit code 1 at the first answer that is not
+/// this checker's.
 pub fn run(program: &str, kinds: &[&str]) -> Outcome {
     let mut asked = 0;
     let cases = cases();
     for case in &cases {
-        for words in kinds.iter().flat_map(|kind| questions(kind, case)) {
-            let words: Vec<&str> = words.iter().map(String::as_str).collect();
-            compare(program, &words, &words, case)?;
-            asked += 1;
+        let queries = Queries::of(case.read());
+        for line in &case.questions {
+            let words: Vec<&str> = line.split(' ').collect();
+            if kinds.is_empty() || kinds.contains(&words[0]) {
+                compare(program, &words, case, line, &answer(line, &queries))?;
+                asked += 1;
+            }
         }
     }
     Ok(format!("{} cases, {asked} questions, no difference\n", cases.len()).into_bytes())
@@ -28,57 +31,26 @@ pub fn run(program: &str, kinds: &[&str]) -> Outcome {
 pub fn run_listing(program: &str) -> Outcome {
     let cases = cases();
     for case in &cases {
-        compare(program, &[], &["listing"], case)?;
+        let expected = answer("listing", &Queries::of(case.read()));
+        compare(program, &[], case, "listing", &expected)?;
     }
     Ok(format!("{} cases, no difference\n", cases.len()).into_bytes())
 }
 
-/// The questions of one kind: a lookup for every asked state, a stretch for
-/// every component and for two that are not there.
-fn questions(kind: &str, case: &Case) -> Vec<Vec<String>> {
-    let with = |numbers: Vec<u32>| {
-        let numbers = numbers.iter().map(u32::to_string);
-        std::iter::once(kind.to_string()).chain(numbers).collect::<Vec<String>>()
-    };
-    match kind {
-        "lookup" => case.asked.iter().map(|asked| with(asked.to_vec())).collect(),
-        "stretch" => {
-            let components = match read(first_bytes(&case.file)) {
-                Ok(accepted) => accepted.instrument.tables.len() as u32,
-                Err(_) => 0,
-            };
-            (0..=components).chain([u32::MAX]).map(|c| with(vec![c])).collect()
-        }
-        _ => vec![with(vec![])],
-    }
-}
-
-fn first_bytes(file: &[u8]) -> &[u8] {
-    &file[..file.len().min(limits::BYTES_READ)]
-}
-
-/// Whether the program, given these words, prints what this checker answers
-/// to the question.
+/// Whether the program, given these words, prints the expected text.
 fn compare(
     program: &str,
     words: &[&str],
-    question: &[&str],
     case: &Case,
+    line: &str,
+    expected: &str,
 ) -> Result<(), (String, u8)> {
-    let expected = reply(question, || first_bytes(&case.file).to_vec())?;
     let printed = printed(program, words, &case.file).map_err(|error| (error.to_string(), 1))?;
-    if printed == expected {
+    if printed == expected.as_bytes() {
         return Ok(());
     }
-    let text = |bytes: &[u8]| String::from_utf8_lossy(bytes).into_owned();
-    let message = format!(
-        "{}: {}\nprinted  {}expected {}",
-        case.name,
-        question.join(" "),
-        text(&printed),
-        text(&expected)
-    );
-    Err((message, 1))
+    let printed = String::from_utf8_lossy(&printed);
+    Err((format!("{}: {line}\nprinted  {printed}expected {expected}", case.name), 1))
 }
 
 /// What the program prints on the file; it may stop reading before the end.

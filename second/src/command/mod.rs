@@ -3,7 +3,7 @@
 
 mod ask;
 mod development;
-pub mod file_queries;
+mod file_queries;
 
 use std::io::{self, Read, Write};
 use std::process::ExitCode;
@@ -13,7 +13,7 @@ const USAGE: &str = "usage: second COMMAND
   to-file | to-text
   self-check [FIRST] [COUNT] | wrong-readings [COUNT]
   store [FOLDER] | compare [FOLDER]
-  ask PROGRAM QUESTION.. | ask-listing PROGRAM";
+  ask PROGRAM [QUESTION..] | ask-listing PROGRAM";
 
 /// What a command prints on standard output, or a message and an exit code.
 pub type Outcome = Result<Vec<u8>, (String, u8)>;

@@ -12,6 +12,7 @@ pub fn cases() -> Vec<Case> {
     let mut cases = document_cases();
     cases.extend(limit_cases());
     cases.extend(trailing_cases());
+    cases.push(questions_case());
     cases
 }
 
@@ -21,7 +22,7 @@ fn case(name: &str, file: Vec<u8>) -> Case {
         Ok(accepted) => asked_states(&mut Prng::new(file.len() as u64), &accepted.instrument),
         Err(_) => vec![[0, 0, 0, 0], [1, 0, 2, 0]],
     };
-    Case { name: name.to_string(), file, asked }
+    Case::of(name, file, &asked)
 }
 
 fn good(name: &str, instrument: &Instrument) -> Case {
@@ -84,4 +85,36 @@ fn trailing_cases() -> Vec<Case> {
         case("longest_16400", longer(&longest, 16_400)),
         case("fault_6_17000", longer(&fault_at_10, 17_000)),
     ]
+}
+
+/// The chain, asked also what is no question, and numbers with zeros in front.
+fn questions_case() -> Case {
+    let mut case = case("questions", examples::CHAIN.to_vec());
+    let lines = [
+        "",
+        "fulll",
+        "Full",
+        " full",
+        "full ",
+        "full 0",
+        "lookup",
+        "lookup 0 0 0",
+        "lookup 0 0 0 0 0",
+        "lookup 0  0 0 0",
+        "lookup 0 0 0 x",
+        "lookup 0 0 0 4294967296",
+        "lookup 0 0 0 00000000000",
+        "lookup 0000000002 0 0 0",
+        "stretch",
+        "stretch 0 0",
+        "stretch -1",
+        "stretch 4294967295",
+        "stretch 4294967296",
+        "verdict verdict",
+        "listing 0",
+        "query full",
+    ];
+    case.questions.extend(lines.map(String::from));
+    case.questions.push("full".repeat(75));
+    case
 }

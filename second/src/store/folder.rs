@@ -10,24 +10,21 @@ use super::{cases, output, Case};
 fn contents(cases: &[Case]) -> BTreeMap<String, Vec<u8>> {
     let mut files = BTreeMap::new();
     let mut names = String::new();
-    let mut lines = String::new();
+    let mut text = String::new();
     for case in cases {
         names += &format!("{}\n", case.name);
-        for line in output(case) {
-            lines += &line;
-            lines += "\n";
-        }
+        text += &output(case);
         files.insert(format!("data/{}", case.name), case.file.clone());
-        files.insert(format!("data/{}.ask", case.name), asked_bytes(&case.asked));
+        files.insert(format!("data/{}.ask", case.name), lines(&case.questions));
     }
     files.insert("args".to_string(), names.into_bytes());
-    files.insert("stdout".to_string(), lines.into_bytes());
+    files.insert("stdout".to_string(), text.into_bytes());
     files
 }
 
-/// Sixteen bytes for each asked state: four numbers, little endian.
-fn asked_bytes(asked: &[[u32; 4]]) -> Vec<u8> {
-    asked.iter().flatten().flat_map(|state| state.to_le_bytes()).collect()
+/// Each line with its end.
+fn lines(lines: &[String]) -> Vec<u8> {
+    lines.iter().flat_map(|line| format!("{line}\n").into_bytes()).collect()
 }
 
 /// Makes the folder anew and answers the number of cases.

@@ -28,8 +28,7 @@ pub fn cases() -> Vec<Case> {
         let mut prng = Prng::new(FIRST_SEED + position as u64);
         let instrument = instrument_at(&mut prng, position);
         let asked = asked_states(&mut prng, &instrument);
-        let name = format!("good_{position:03}");
-        cases.push(Case { name, file: write(&instrument), asked });
+        cases.push(Case::of(&format!("good_{position:03}"), write(&instrument), &asked));
     }
     for position in 0..DAMAGED {
         let mut prng = Prng::new(FIRST_SEED + (good + position) as u64);
@@ -37,8 +36,8 @@ pub fn cases() -> Vec<Case> {
         let instrument = instrument_of(&mut prng, &shape);
         let file = damaged(&mut prng, &instrument).file;
         let arbitrary = [prng.below(4) as u32, prng.below(4) as u32, 0, prng.below(2) as u32];
-        let asked = vec![[0, 0, 0, 0], arbitrary];
-        cases.push(Case { name: format!("damaged_{position:03}"), file, asked });
+        let asked = [[0, 0, 0, 0], arbitrary];
+        cases.push(Case::of(&format!("damaged_{position:03}"), file, &asked));
     }
     cases
 }

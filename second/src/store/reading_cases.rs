@@ -50,8 +50,7 @@ fn found(
         let mut prng = Prng::new(seed);
         let instrument = drawn(&mut prng);
         let asked = asked_states(&mut prng, &instrument);
-        let name = format!("{name}_{}", cases.len());
-        let case = Case { name, file: write(&instrument), asked };
+        let case = Case::of(&format!("{name}_{}", cases.len()), write(&instrument), &asked);
         if wanted(&case) {
             cases.push(case);
         }

@@ -11,11 +11,8 @@ pub struct Row {
 }
 
 pub fn cases() -> Vec<Case> {
-    let case = |row: Row| Case {
-        name: row.name.to_string(),
-        file: row.file,
-        asked: vec![[0, 0, 0, 0], [4_294_967_295, 1, 0, 7]],
-    };
+    let asked = [[0, 0, 0, 0], [4_294_967_295, 1, 0, 7]];
+    let case = |row: Row| Case::of(row.name, row.file, &asked);
     rows().into_iter().map(case).collect()
 }
 

@@ -29,7 +29,7 @@ with-all-listed set (v ∷ vs) w h =
     ]
 
 -- and nothing else
-with-all-out : (set : ℕ) (vs : List ℕ) (w : ℕ) → T (has (withAll set vs) w) → T (has set w) ⊎ T (listed vs w)
+pub with-all-out : (set : ℕ) (vs : List ℕ) (w : ℕ) → T (has (withAll set vs) w) → T (has set w) ⊎ T (listed vs w)
 unfolding withAll
 with-all-out set [] w h = inl h
 with-all-out set (v ∷ vs) w h =

@@ -35,6 +35,20 @@ module _ {A B : Type 0} where
   on-same P (found a n) f f′ h k = k a n h
   on-same P (fault r) f f′ h k = refl
 
+-- the same as a record, from which P can be read off
+pub record Told {A : Type 0} (P : A → ℕ → Type 0) (g : Got A) : Type 0 where
+  pub told : Says P g
+
+pub told-on : {A B : Type 0} {P : A → ℕ → Type 0} {Q : B → ℕ → Type 0} {g : Got A} {f : A → ℕ → Got B} → Told P g
+    → ((a : A) (n : ℕ) → P a n → Told Q (f a n)) → Told Q (on g f)
+told-on {P = P} {Q = Q} {g = g} {f = f} h k = record { told = on-says P Q g f (h .told) (λ a n p. k a n p .told) }
+
+pub told-map : {A : Type 0} {P Q : A → ℕ → Type 0} {g : Got A} → ((a : A) (e : ℕ) → P a e → Q a e) → Told P g → Told Q g
+told-map {P = P} {Q = Q} {g = g} f h = record { told = says-map P Q f g (h .told) }
+
+pub told-found : {A : Type 0} (P : A → ℕ → Type 0) (a : A) (n : ℕ) → P a n → Told P (found a n)
+told-found P a n h = record { told = h }
+
 -- of three things it does not matter which two are put together
 pub on-assoc : {A B C : Type 0} (g : Got A) (f : A → ℕ → Got B) (h : B → ℕ → Got C) → on (on g f) h ≡ on g (λ a n. on (f a n) h)
 on-assoc (found a n) f h = refl

@@ -17,7 +17,7 @@ use Rattle.meaning.proofs.File.Lists.{Says}
 use Rattle.meaning.proofs.File.Parsers.{Reads, reads-bind, reads-demand, reads-give, reads-then, weaker}
 
 -- the first k of a list, from a place on
-drop-take : {A : Type 0} (at k : ℕ) (l : List A) → drop at (take k l) ≡ take (k - at) (drop at l)
+pub drop-take : {A : Type 0} (at k : ℕ) (l : List A) → drop at (take k l) ≡ take (k - at) (drop at l)
 drop-take zero k l = let e : k - 0 ≡ k = omega arith in rw e refl
 drop-take (suc at) zero l = let e : 0 - suc at ≡ 0 = omega arith in rw e refl
 drop-take (suc at) (suc k) [] = sym (take-nil (suc k - suc at))

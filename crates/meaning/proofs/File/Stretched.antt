@@ -56,7 +56,7 @@ record Begun (file : List ℕ) (k : Contents) : Type 0 where
   signals-is : between limits 0 (limits .signals) 3 file after-many ≡ found (k .signals) after-signals
   tables-are : components limits (k .signals) many file after-signals ≡ found (k .components) after-tables
 
-pub says-on : {A B : Type 0} (Q : B → ℕ → Type 0) (g : Got A) (f : A → ℕ → Got B) → ((a : A) (n : ℕ) → g ≡ found a n → Says Q (f a n))
+says-on : {A B : Type 0} (Q : B → ℕ → Type 0) (g : Got A) (f : A → ℕ → Got B) → ((a : A) (n : ℕ) → g ≡ found a n → Says Q (f a n))
     → Says Q (on g f)
 says-on Q (found a n) f h = h a n refl
 says-on Q (fault r) f h = tt

@@ -7,7 +7,7 @@ use native.Mathlib.Decide.{ℕ-discrete}
 use Prim.Native.Nat.{_<_, ℕ}
 use Rattle.meaning.specs.Combination.{State, Truth, high}
 use Rattle.meaning.specs.Formula.{Formula}
-use Rattle.meaning.specs.Instrument.{Partner}
+use Rattle.meaning.specs.Instrument.{Accepted, Instrument, Partner, components, table}
 use Rattle.meaning.specs.Marks.{Fail, Pass}
 use Rattle.meaning.specs.Reference.Marks.{failB, passB}
 use Rattle.meaning.specs.Table.{Table, Total}
@@ -15,6 +15,12 @@ use Rattle.meaning.specs.View.{signals}
 use Rattle.meaning.proofs.Marks.Decided.{fail-decides, pass-decides}
 use Rattle.meaning.proofs.Marks.Signals.{signals-sound}
 use Rattle.meaning.proofs.Marks.Sound.{fail-sound, pass-sound}
+
+-- in an accepted instrument the other components are partners of each
+pub other-partners : (I : Instrument) → Accepted I → (i j : ℕ) → i < components I → j < components I → j ≢ i → Partner (table I i) (table I j)
+other-partners I a i j l k z =
+    let good = a .well-formed in
+    record { some = good .some j k; total = good .total j k; apart = good .apart i j l k z }
 
 -- the component t and its partners, in any order: t is table k of n
 module _ (n : ℕ) (S : ℕ → Table) (k : ℕ) (l : k < n) (total : Total (S k)) (partners : (j : ℕ) → j < n → j ≢ k → Partner (S k) (S j)) where

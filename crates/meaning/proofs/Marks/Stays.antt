@@ -6,7 +6,6 @@ use native.Mathlib.Omega.{arith}
 use Prim.Native.Nat.{_<_, suc, zero, ℕ}
 use Rattle.meaning.specs.Marks.{Move, Stays, UpTo}
 use Rattle.meaning.specs.Table.{Table, Total}
-use Rattle.meaning.proofs.Basic.Bounded.{first-or}
 use Rattle.meaning.proofs.Meaning.Paths.{cons, cons-path, follow}
 use Rattle.meaning.proofs.Meaning.TablePaths.{move-total}
 
@@ -31,24 +30,6 @@ each-words F G π h n = n (inl (λ i. elim (h i) [ inl u ↦ u i (omega arith) |
 -- for a reader who grants excluded middle, the definition is document 01's words
 pub each-classical : ((P : Type 0) → P ⊎ (P → ⊥)) → (F G : ℕ → Type 0) (π : ℕ → ℕ) → AtEach F G π → Words F G π
 each-classical lem F G π h = elim (lem (Words F G π)) [ inl w ↦ w | inr n ↦ absurd (each-words F G π h n) ]
-
--- the weaker form that is used: G at each step, or F before
-abbrev pub Weak : (ℕ → Type 0) → (ℕ → Type 0) → (ℕ → ℕ) → Type 0
-Weak F G π = (i : ℕ) → G (π i) ⊎ ((j : ℕ) × (j < i) × F (π j))
-
-pub each-weak : (F G : ℕ → Type 0) (π : ℕ → ℕ) → AtEach F G π → Weak F G π
-each-weak F G π h i = elim (h i) [ inl u ↦ inl (u i (omega arith)) | inr (j, l, f, u) ↦ inr (j, l, f) ]
-
--- and back, where F is decided on the path
-pub weak-each : (F G : ℕ → Type 0) (π : ℕ → ℕ) → ((i : ℕ) → F (π i) ⊎ (F (π i) → ⊥)) → Weak F G π → AtEach F G π
-weak-each F G π d h i =
-    elim (first-or {P = λ i. F (π i)} i (λ j l. d j)) [
-      | inl a ↦ inl (λ k l. stay k (λ j z. a j (omega arith)))
-      | inr (j, l, f, a) ↦ inr (j, l, f, λ k z. stay k (λ x y. a x (omega arith)))
-    ]
-  where
-    stay : (k : ℕ) → ((j : ℕ) → j < k → F (π j) → ⊥) → G (π k)
-    stay k a = elim (h k) [ inl g ↦ g | inr (j, l, f) ↦ absurd (a j l f) ]
 
 module _ (t : Table) (total : Total t) where
   -- FAIL of EU in a state, and in the states after one that is not FAIL of the first

@@ -9,7 +9,7 @@ use Rattle.words.specs.Sets.{has, insert}
 use Rattle.meaning.specs.Table.{Table, fromWords}
 use Rattle.meaning.specs.Nodes.{Node, top, atom, neg, or, ex, eg, eu}
 use Rattle.meaning.specs.Instrument.{Instrument}
-use Rattle.meaning.specs.File.Parser.{Got, found, fault, Parser, Done, on, _>>=_, _>>_, give, demand, listOf, repeat}
+use Rattle.meaning.specs.File.Parser.{Got, fault, Parser, Done, _>>=_, _>>_, give, demand, listOf, repeat}
 use Rattle.meaning.specs.File.Number.{numberWith}
 
 -- the width of numbers, as the highest last group and how many groups may stand before it; and how many there may be of each thing
