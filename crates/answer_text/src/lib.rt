@@ -6,11 +6,8 @@ use arguments::Question;
 use cursor::Refusal;
 use report::append;
 use text::Text;
-ghost use mathlib.Core.Path.{_≡_};
 ghost use mathlib.Core.List.{List};
 ghost use Prim.Native.Nat.{ℕ};
-ghost use lib.ListN.{take};
-ghost use Rattle.meaning.specs.File.Promise.{listingBytes};
 ghost use Rattle.cursor.specs.Answers.{number};
 ghost use Rattle.answers.specs.Listing.{refusalLine};
 ghost use Rattle.answers.specs.Questions.{questionOf};
@@ -18,6 +15,7 @@ ghost use Rattle.answers.specs.Printed.{printed};
 ghost use Rattle.arguments.specs.Asked.{asks};
 ghost use Rattle.report.specs.Report.{Spelled};
 ghost use Rattle.lines.specs.Made.{Made};
+ghost use Rattle.answer_text.specs.Settled.{Settled};
 
 // A program reads the first bytes of a file, so many at most: they settle every longer input too (clause `longer`).
 pub const FILE_BYTES: usize = 16385;
@@ -60,7 +58,7 @@ fn question_text(asked: Question, file: &[u8], out: &mut [u8; TEXT_BYTES]) -> us
 // The text for the question that a line of words asks about a file, in front of the buffer, and how many bytes it has.
 pub fn answer_text(question: &[u8], file: &[u8], out: &mut [u8; TEXT_BYTES]) -> usize
     ensures answer { λ r. ⌜ Made (printed (questionOf (now (question .entry))) (now (file .entry))) r (now (out .entry)) (now (out .exit)) ⌝ }
-    ensures longer { λ r. ⌜ ((all : List ℕ) → now (file .entry) ≡ take (← ⟦FILE_BYTES⟧) all → Made (printed (questionOf (now (question .entry))) all) r (now (out .entry)) (now (out .exit))) ⌝ }
+    ensures longer { λ r. do ⌜ Settled (← ⟦FILE_BYTES⟧ .entry) (now (question .entry)) (now (file .entry)) r (now (out .entry)) (now (out .exit)) ⌝ }
 {
     question_text(arguments::question_of(question), file, out)
 }

@@ -3,3 +3,5 @@ pub mod Starts
 pub mod Parts
 pub mod Limit
 pub mod Inhabited
+pub mod Printed
+pub mod Asked

@@ -1,5 +1,5 @@
--- The lines that the programs print for the questions other than the listing: words, marks, class names, bytes of the file, the lookup and the
--- verdict. Each line ends with byte 10. A refusal is the line `refused N` (specs/Listing).
+-- The lines that the programs print for the questions other than the listing and the class names (specs/Listing): words, marks, bytes of the file,
+-- the lookup and the verdict. Each line ends with byte 10. A refusal is the line `refused N`.
 use mathlib.Core.Bool.{Bool, true, false, cond}
 use mathlib.Core.List.{List, [], _∷_, _++_}
 use lib.Dec.{ltb}
@@ -7,7 +7,7 @@ use lib.ListN.{length, getD}
 use Prim.Native.Nat.{ℕ, zero, suc, _+_, _*_, _/_, _%_}
 use Rattle.meaning.specs.Reference.Answers.{joinBelow}
 use Rattle.answers.specs.Outcomes.{Reply, given, denied, Judgement}
-use Rattle.answers.specs.Listing.{decimal, space, lineEnd, componentLabel, classLine, verdictWord, stageWord, refusalLine}
+use Rattle.answers.specs.Listing.{decimal, space, lineEnd, componentLabel, verdictWord, stageWord, refusalLine}
 
 -- word i of a line: a space stands before every word but the first
 abbrev pub wordAt : ℕ → ℕ → List ℕ
@@ -40,23 +40,6 @@ markLineAt nodes ws j = markLine (j / nodes) (j % nodes) (getD ws (2 * j) 0) (ge
 -- the lines of all marks, components outermost
 abbrev pub markLines : ℕ → List ℕ → List ℕ
 markLines nodes ws = joinBelow (length ws / 2) (markLineAt nodes ws)
-
--- how many names stand before those of component c, which has as many names as states
-abbrev pub namesBefore : List ℕ → ℕ → ℕ
-namesBefore states zero = 0
-namesBefore states (suc c) = namesBefore states c + getD states c 0
-
--- "component 0 classes 0 0 2", from so many names; no line where there is none
-abbrev pub namesLine : ℕ → ℕ → (ℕ → ℕ) → List ℕ
-namesLine c zero names = []
-namesLine c (suc n) names = classLine c (suc n) names
-
-abbrev pub namesLineAt : List ℕ → List ℕ → ℕ → List ℕ
-namesLineAt states names c = namesLine c (getD states c 0) (λ x. getD names (namesBefore states c + x) 0)
-
--- the lines of all components, from their state counts and the names of their states one component after the other
-abbrev pub namesLines : List ℕ → List ℕ → List ℕ
-namesLines states names = joinBelow (length states) (namesLineAt states names)
 
 -- 0 to 9 are "0" to "9", bytes 48 to 57; 10 to 15 are "a" to "f", bytes 97 to 102
 abbrev pub hexadecimalDigit : ℕ → ℕ

@@ -10,7 +10,7 @@ use Rattle.meaning.specs.File.Number.{choose}
 use Rattle.meaning.specs.File.Grammar.{Contents, instrumentOf, readFile}
 use Rattle.meaning.specs.File.Stretches.{Stretch, located}
 use Rattle.meaning.specs.Reference.Answers.{fullCount, fullWords, markWords, mergedSize, mergedWords}
-use Rattle.answers.specs.Outcomes.{Reply, given, denied, Judgement, judgement, verdictOf, mostStates, lookupReply, verdictReply, bytesOf}
+use Rattle.answers.specs.Outcomes.{Reply, given, denied, Judgement, judgement, verdictOf, mostStates, lookupReply, verdictReply, componentBytes}
 use Rattle.answers.specs.Listing.{refusalLine, classLines, listingText}
 use Rattle.answers.specs.Lines.{wordsLine, markLines, hexadecimalLine, lookupLine, judgementLine}
 use Rattle.answers.specs.Questions.{Question, full, marks, classes, merged, listing, verdict, stretch, lookup, unknown}
@@ -29,10 +29,10 @@ abbrev pub listedText : Instrument → Reply Judgement → List ℕ
 listedText I (given j) = listingText I j
 listedText I (denied r) = refusalLine r
 
--- the bytes of a component's own stretch
-abbrev pub stretchText : List ℕ → Got Stretch → List ℕ
-stretchText file (found s end) = hexadecimalLine (bytesOf file (found s end))
-stretchText file (fault r) = refusalLine r
+-- the bytes of a component's own stretch, or the refusal
+abbrev pub stretchText : Got Stretch → List ℕ → List ℕ
+stretchText (found s end) bytes = hexadecimalLine bytes
+stretchText (fault r) bytes = refusalLine r
 
 -- "usage: query full | marks | classes | merged | listing | lookup A B C D | verdict | stretch C < FILE"
 unfoldable pub usageLine : List ℕ
@@ -47,6 +47,6 @@ printed classes file = textAfter (readFile file) classLines
 printed merged file = textAfter (readFile file) (λ I. textWithin (mergedSize I) 12 (wordsLine (mergedWords I)))
 printed listing file = textAfter (readFile file) (λ I. listedText I (judgement (verdictOf I)))
 printed verdict file = judgementLine (verdictReply file)
-printed (stretch c) file = stretchText file (located file c)
+printed (stretch c) file = stretchText (located file c) (componentBytes file c)
 printed (lookup s0 s1 s2 s3) file = lookupLine (lookupReply file (s0 ∷ s1 ∷ s2 ∷ s3 ∷ []))
 printed unknown file = usageLine

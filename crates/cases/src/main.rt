@@ -1,32 +1,53 @@
-// The answers to every question about stored instrument files, with what is left in lent buffers, in the lines that second/README.md describes
-// (Stored cases). Each argument is the name of a case: its file has that name, the combined states asked are in the file with `.ask` after it.
+// What the program `query` prints for the questions about stored instrument files, through the same function (second/README.md, Stored cases). Each
+// argument is the name of a case: its file has that name, and its questions, a line each, are in the file with `.ask` after it.
+use answer_text::FILE_BYTES;
+use answer_text::TEXT_BYTES;
+use answer_text::answer_text;
+use libc::STDOUT_FILENO;
 use libc::close;
-
-mod byte_entries; // byte_entries.rt: questions whose entries are bytes
-mod lent; // lent.rt: what lent buffers hold before a question
-mod told; // told.rt: the lookups, the verdict and the components' bytes
-mod word_entries; // word_entries.rt: questions whose entries are words
-
-use byte_entries::ByteQuestion;
-use word_entries::WordQuestion;
 ghost use Prim.Native.Nat.{_≤_};
 ghost use lib.ListN.{length};
 ghost use Rattle.io.specs.Counts.{Counts};
 
-fn print_case(name: &[u8], file: &[u8], states: &[u8])
-    requires { ⌜ length (now file) ≤ 16385 ⌝ }
+fn write(bytes: &[u8]) {
+    io::write_all(STDOUT_FILENO, bytes);
+}
+
+// "query full", and the text for that question.
+fn print_answer(question: &[u8], file: &[u8]) {
+    write(b"query ");
+    write(question);
+    write(b"\n");
+    let mut text = [0u8; TEXT_BYTES];
+    let n = answer_text(question, file, &mut text);
+    write(&text[..n]);
+}
+
+// Where the line that begins at a place ends.
+fn line_end(lines: &[u8], from: usize) -> usize
+    requires { ⌜ from ≤ length (now lines) ⌝ }
+    ensures { λ r. ⌜ (from ≤ r) × (r ≤ length (now (lines .entry))) ⌝ }
 {
-    printing::text(b"case ");
-    printing::text(name);
-    printing::line_end();
-    word_entries::answers(file, WordQuestion::Full);
-    word_entries::answers(file, WordQuestion::Marks);
-    byte_entries::answers(file, ByteQuestion::Classes);
-    word_entries::answers(file, WordQuestion::Merged);
-    byte_entries::answers(file, ByteQuestion::Listing);
-    told::lookups(file, states);
-    told::verdict(file);
-    told::stretches(file);
+    let mut at = from;
+    while at < lines.len() {
+        if lines[at] == b'\n' {
+            return at;
+        }
+        at += 1;
+    }
+    at
+}
+
+fn print_case(name: &[u8], file: &[u8], questions: &[u8]) {
+    write(b"case ");
+    write(name);
+    write(b"\n");
+    let mut at: usize = 0;
+    while at < questions.len() {
+        let end = line_end(questions, at);
+        print_answer(&questions[at..end], file);
+        at = end + 1;
+    }
 }
 
 // The first bytes of a file; none where it cannot be read.
@@ -39,13 +60,13 @@ fn read_file(path: &[u8], out: &mut [u8]) -> usize
     n
 }
 
-// The case of this name, whose combined states asked, at most 256, are in a file of their own.
+// The case of this name, whose questions have 16,384 bytes at most.
 fn read_case(name: &[u8], asked: &[u8]) {
-    let mut file = [0u8; 16385];
+    let mut file = [0u8; FILE_BYTES];
     let n = read_file(name, &mut file);
-    let mut states = [0u8; 4096];
-    let m = read_file(asked, &mut states);
-    print_case(name, &file[..n], &states[..m]);
+    let mut questions = [0u8; 16384];
+    let m = read_file(asked, &mut questions);
+    print_case(name, &file[..n], &questions[..m]);
 }
 
 // The first n bytes with `.ask` after them.
@@ -74,7 +95,7 @@ fn argued_case(i: usize) {
     let mut name = [0u8; 20];
     let n = os::arg(i, &mut name);
     if 16 < n {
-        printing::text(b"a name has at most 16 characters\n");
+        write(b"a name has at most 16 characters\n");
         return;
     }
     named_case(name, n);

@@ -1,5 +1,5 @@
 -- How long the words and lines are.
-use mathlib.Core.Path.{_≡_, refl, ap, _∙_}
+use mathlib.Core.Path.{_≡_, refl, ap}
 use mathlib.Core.Bool.{Bool, true, false}
 use mathlib.Core.List.{List, _++_}
 use lib.ListN.{length, getD, length-append}
@@ -9,13 +9,12 @@ use Rattle.meaning.specs.Reference.Answers.{joinBelow}
 use Rattle.meaning.proofs.Basic.Entries.{join-length}
 use Rattle.answers.specs.Outcomes.{Reply, given, denied, Judgement}
 use Rattle.answers.specs.Listing.{decimal, space, lineEnd, componentLabel, stageWord, verdictWord}
-use Rattle.answers.specs.Lines.{wordAt, wordsLine, nodeLabel, passLabel, failLabel, markLine, markLineAt, markLines}
-use Rattle.answers.specs.Lines.{namesBefore, namesLine, namesLineAt, namesLines, hexadecimalByte, hexadecimalLine, truthWord, lookupLine, judgementLine}
+use Rattle.answers.specs.Lines.{wordAt, nodeLabel, passLabel, failLabel, markLine, markLineAt, markLines}
+use Rattle.answers.specs.Lines.{hexadecimalByte, truthWord, lookupLine, judgementLine}
 use Rattle.text.specs.declared.Text.{Text}
 use Rattle.text.specs.Texts.{textOf}
 use Rattle.text.proofs.Texts.{decimal-length}
-use Rattle.report.proofs.Lengths.{join-short, name-short, verdict-short, stage-short, class-line-short, refusal-line-short}
-use Rattle.lines.specs.Made.{FewStates}
+use Rattle.report.proofs.Lengths.{join-short, name-short, verdict-short, stage-short, refusal-line-short}
 
 pub word-short : (i w : ℕ) → length (wordAt i w) ≤ 11
 word-short zero w = omega (arith, decimal-length w)
@@ -27,12 +26,6 @@ words ws = joinBelow (length ws) (λ i. wordAt i (getD ws i 0))
 -- 11 bytes a word, and the line end
 pub words-short : (ws : List ℕ) → length (words ws) ≤ 11 * length ws
 words-short ws = join-short 11 (length ws) (λ i. wordAt i (getD ws i 0)) (λ i l. word-short i (getD ws i 0))
-
-pub words-line-short : (ws : List ℕ) → length (wordsLine ws) ≤ 11 * length ws + 1
-words-line-short ws = omega (arith, length-append (words ws) lineEnd, words-short ws)
-
-pub words-line-some : (ws : List ℕ) → 1 ≤ length (wordsLine ws)
-words-line-some ws = omega (arith, length-append (words ws) lineEnd)
 
 pub mark-short : (c k pass fail : ℕ) → length (markLine c k pass fail) ≤ 69
 mark-short c k pass fail =
@@ -61,27 +54,9 @@ marks-short nodes ws h =
       join-short 69 (length ws / 2) (markLineAt nodes ws) (λ j l. mark-short (j / nodes) (j % nodes) (getD ws (2 * j) 0) (getD ws (2 * j + 1) 0)),
     )
 
-pub names-line-short : (c n : ℕ) (names : ℕ → ℕ) → n ≤ 32 → length (namesLine c n names) ≤ 381
-names-line-short c zero names h = omega arith
-names-line-short c (suc n) names h = class-line-short c (suc n) names h
-
--- 4 lines of 32 names
-pub names-lines-short : (states names : List ℕ) → length states ≡ 4 → FewStates states → length (namesLines states names) ≤ 1524
-names-lines-short states names e h =
-    omega (
-      arith,
-      e,
-      join-short 381 (length states) (namesLineAt states names) (λ c l.
-          names-line-short c (getD states c 0) (λ x. getD names (namesBefore states c + x) 0) (h .few c (omega (arith, e)))),
-    )
-
 -- 2 bytes a byte, and the line end
 pub digits-length : (bytes : List ℕ) → length (joinBelow (length bytes) (λ i. hexadecimalByte (getD bytes i 0))) ≡ 2 * length bytes
 digits-length bytes = join-length 2 (length bytes) (λ i. hexadecimalByte (getD bytes i 0)) (λ i l. refl)
-
-pub hexadecimal-line-length : (bytes : List ℕ) → length (hexadecimalLine bytes) ≡ 2 * length bytes + 1
-hexadecimal-line-length bytes =
-    length-append (joinBelow (length bytes) (λ i. hexadecimalByte (getD bytes i 0))) lineEnd ∙ omega (arith, digits-length bytes)
 
 -- a line alone
 truth-short : (b : Bool) → length (truthWord b) ≤ 5

@@ -4,4 +4,3 @@ pub mod Lengths
 pub mod Appending
 -- each piece as a text
 pub mod Parts
-pub mod Names

@@ -1,13 +1,13 @@
 -- Each word, each line as a text.
 use mathlib.Core.Path.{_≡_, refl, sym, ap, _∙_}
-use mathlib.Core.List.{List, [], _++_, append-assoc}
+use mathlib.Core.List.{List, _++_, append-assoc}
 use lib.ListN.{length}
 use borrow.Author.Tests.{lt-ltb, le-ltb}
 use mathlib.Core.Bool.{cond}
 use native.Mathlib.Omega.{arith}
 use Prim.Native.Nat.{ℕ, zero, suc, _+_, _≤_, _<_}
-use Rattle.answers.specs.Listing.{decimal, space, componentLabel, classLine}
-use Rattle.answers.specs.Lines.{wordAt, nodeLabel, namesLine, hexadecimalDigit}
+use Rattle.answers.specs.Listing.{decimal, space, componentLabel}
+use Rattle.answers.specs.Lines.{wordAt, nodeLabel, hexadecimalDigit}
 use Rattle.text.specs.declared.Text.{Text}
 use Rattle.text.specs.Texts.{textOf, Holds}
 use Rattle.report.specs.Report.{Spelled}
@@ -27,15 +27,6 @@ pub after-label : {a b : Text} (c k : ℕ) {l : List ℕ} → a ≡ textOf (comp
 after-label c k {l} e h =
     h .text (componentLabel ++ (decimal c ++ (nodeLabel ++ decimal k))) e
     ∙ ap (λ m. textOf (componentLabel ++ m)) (append-assoc (decimal c) (nodeLabel ++ decimal k) l)
-
--- no line where there is no name
-pub names-none : (c n : ℕ) (names : ℕ → ℕ) → n ≡ 0 → namesLine c n names ≡ []
-names-none c zero names e = refl
-names-none c (suc n) names e = absurd (omega arith)
-
-pub names-some : (c n : ℕ) (names : ℕ → ℕ) → 0 < n → namesLine c n names ≡ classLine c n names
-names-some c zero names l = absurd (omega arith)
-names-some c (suc n) names l = refl
 
 -- digits below and from ten on
 pub digit-low : (d : ℕ) → d < 10 → 48 + d ≡ hexadecimalDigit d

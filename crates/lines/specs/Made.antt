@@ -1,15 +1,11 @@
--- What is left in a lent buffer, and what is asked of state counts.
+-- What is left in a lent buffer.
 use mathlib.Core.Path.{_≡_}
 use mathlib.Core.List.{List}
-use lib.ListN.{length, getD}
-use Prim.Native.Nat.{ℕ, _≤_, _<_}
+use lib.ListN.{length}
+use Prim.Native.Nat.{ℕ}
 use Rattle.meaning.specs.Reference.Answers.{entries, lentAfter}
 
 -- these bytes stand at the front of the buffer, the rest of it is as it was, and the result is how many they are
 pub record Made (bytes : List ℕ) (result : ℕ) (old new : List ℕ) : Type 0 where
   pub count : result ≡ length bytes
   pub buffer : new ≡ lentAfter (entries bytes) old
-
--- no component has more than 32 states
-pub record FewStates (states : List ℕ) : Type 0 where
-  pub few : (c : ℕ) → c < 4 → getD states c 0 ≤ 32

@@ -4,15 +4,9 @@ use mathlib.Core.List.{List}
 use lib.ListN.{length}
 use Prim.Native.Nat.{ℕ}
 use Rattle.meaning.specs.Reference.Answers.{joinBelow}
-use Rattle.answers.specs.Lines.{namesBefore, namesLineAt}
 use Rattle.marks.specs.Written.{Written}
 
 -- of n pieces f 0, f 1, .. the first i stand at the front of the buffer, and the next place is known
 pub record Appending (out₀ : List ℕ) (n : ℕ) (f : ℕ → List ℕ) (i place : ℕ) (out : List ℕ) : Type 0 where
   pub written : Written out₀ 0 n f i out
   pub next : place ≡ length (joinBelow i f)
-
--- the lines of the first c components stand there, and where the names of the next one begin is known
-pub record Naming (states names out₀ : List ℕ) (c from place : ℕ) (out : List ℕ) : Type 0 where
-  pub lines : Appending out₀ (length states) (namesLineAt states names) c place out
-  pub begins : from ≡ namesBefore states c

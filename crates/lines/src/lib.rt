@@ -6,13 +6,12 @@ ghost use mathlib.Core.Path.{_≡_};
 ghost use Prim.Native.Nat.{_+_, _*_, _≤_, _<_};
 ghost use lib.ListN.{length};
 ghost use Rattle.answers.specs.Outcomes.{given};
-ghost use Rattle.answers.specs.Lines.{wordsLine, markLines, namesLines, hexadecimalLine, lookupLine, judgementLine};
+ghost use Rattle.answers.specs.Lines.{wordsLine, markLines, hexadecimalLine, lookupLine, judgementLine};
 ghost use Rattle.text.specs.Texts.{textOf};
 ghost use Rattle.report.specs.Report.{judgementFrom};
-ghost use Rattle.lines.specs.Made.{Made, FewStates};
+ghost use Rattle.lines.specs.Made.{Made};
 use pieces::byte_text;
 use pieces::mark_text;
-use pieces::names_text;
 use pieces::word_text;
 use report::append;
 use report::lines::judgement_line;
@@ -46,24 +45,6 @@ pub fn mark_lines(nodes: usize, marks: &[u32], out: &mut [u8]) -> usize
         let line = mark_text(j / nodes, j % nodes, marks[2 * j], marks[2 * j + 1]);
         at = append(line, out, at);
         j += 1;
-    }
-    at
-}
-
-// A line for every component that has states, from the state counts and the names of all states.
-pub fn class_lines(states: [u32; 4], names: &[u8], out: &mut [u8]) -> usize
-    requires { ⌜ FewStates states × (128 ≤ length (now names)) × (1524 ≤ length (now out)) ⌝ }
-    ensures { λ r. ⌜ Made (namesLines states (now (names .entry))) r (now (out .entry)) (now (out .exit)) ⌝ }
-{
-    let mut at: usize = 0;
-    let mut from: usize = 0;
-    let mut c: usize = 0;
-    while c < 4 {
-        let end = from + states[c] as usize;
-        let line = names_text(c as u32, &names[from..end]);
-        at = append(line, out, at);
-        from = end;
-        c += 1;
     }
     at
 }

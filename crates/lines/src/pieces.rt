@@ -2,11 +2,10 @@
 ghost use mathlib.Core.Path.{_≡_};
 ghost use mathlib.Core.List.{_++_};
 ghost use Prim.Native.Nat.{_+_, _≤_, _<_};
-ghost use lib.ListN.{length, getD};
+ghost use lib.ListN.{length};
 ghost use Rattle.answers.specs.Listing.{decimal, componentLabel};
-ghost use Rattle.answers.specs.Lines.{wordAt, nodeLabel, markLine, namesLine, hexadecimalDigit, hexadecimalByte};
+ghost use Rattle.answers.specs.Lines.{wordAt, nodeLabel, markLine, hexadecimalDigit, hexadecimalByte};
 ghost use Rattle.text.specs.Texts.{Holds, textOf};
-use report::lines::class_line;
 use text::Text;
 
 // Word i of a line.
@@ -46,18 +45,6 @@ pub(crate) fn mark_text(c: usize, k: usize, pass: u32, fail: u32) -> Text
     let passed = labelled(label, b" PASS ", pass);
     let failed = labelled(passed, b" FAIL ", fail);
     failed.word(b"\n")
-}
-
-// "component 0 classes 0 0 2", no byte where there is no name.
-pub(crate) fn names_text(c: u32, names: &[u8]) -> Text
-    requires { ⌜ length (now names) ≤ 32 ⌝ }
-    ensures { λ r. ⌜ r ≡ textOf (namesLine c (length (now (names .entry))) (λ x. getD (now (names .entry)) x 0)) ⌝ }
-{
-    let empty = Text::empty();
-    if names.len() == 0 {
-        return empty;
-    }
-    class_line(empty, c, names)
 }
 
 // A hexadecimal digit.

@@ -1,89 +1,57 @@
-// One question about an instrument file, which is read from standard input:
-//     query full | marks | classes | merged | lookup A B C D | verdict | stretch C
-// The answer is one line or more on standard output; a refusal is the line `refused N`, with document 01's number. Anything else gives one
-// line on how to ask.
+// One question about an instrument file, which is read from standard input: `query full`, `query lookup 0 1 0 0` (README.md, Questions). The program
+// puts its arguments into a line, reads, has the text made by crate answer_text, and writes it.
+use answer_text::FILE_BYTES;
+use answer_text::TEXT_BYTES;
+use answer_text::answer_text;
+use arguments::Question;
 use libc::STDIN_FILENO;
-use queries::Written;
-use question::Question;
+use libc::STDOUT_FILENO;
 ghost use Prim.Native.Nat.{_≤_};
 ghost use lib.ListN.{length};
+ghost use Rattle.io.specs.Counts.{Counts};
 
-mod question; // question.rt: what the arguments ask
-
-fn usage() {
-    printing::text(
-        b"usage: query full | marks | classes | merged | lookup A B C D | verdict | stretch C < FILE\n",
-    );
-}
-
-fn full(file: &[u8]) {
-    let mut words = [0u32; 4096];
-    match queries::full_words(file, &mut words) {
-        Written::Refused(r) => printing::refusal_line(r),
-        Written::Entries(n) => printing::words_line(&words, n),
-    }
-}
-
-fn merged(file: &[u8]) {
-    let mut words = [0u32; 4096];
-    match queries::merged_words(file, &mut words) {
-        Written::Refused(r) => printing::refusal_line(r),
-        Written::Entries(n) => printing::words_line(&words, n),
-    }
-}
-
-// Two words for each of at most 4 components and 24 nodes.
-fn marks(file: &[u8]) {
-    let mut words = [0u32; 192];
-    match queries::mark_words(file, &mut words) {
-        Written::Refused(r) => printing::refusal_line(r),
-        Written::Entries(_) => printing::mark_lines(file, &words),
-    }
-}
-
-// A byte for each of at most 32 states of at most 4 components.
-fn classes(file: &[u8]) {
-    let mut names = [0u8; 128];
-    match queries::class_names(file, &mut names) {
-        Written::Refused(r) => printing::refusal_line(r),
-        Written::Entries(_) => printing::class_lines(file, &names),
-    }
-}
-
-fn lookup(file: &[u8], s0: u32, s1: u32, s2: u32, s3: u32) {
-    printing::lookup_line(queries::lookup(file, s0, s1, s2, s3));
-}
-
-fn verdict(file: &[u8]) {
-    printing::verdict_line(queries::verdict(file));
-}
-
-fn answer(file: &[u8], asked: Question)
-    requires { ⌜ length (now file) ≤ 16385 ⌝ }
+// The arguments after the program's name in front of the line, with one space between them. No question is longer than the line: what does not
+// fit is none.
+fn argument_line(line: &mut [u8]) -> usize
+    ensures { λ r. ⌜ r ≤ length (now (line .exit)) ⌝ }
 {
-    match asked {
-        Question::Full => full(file),
-        Question::Marks => marks(file),
-        Question::Classes => classes(file),
-        Question::Merged => merged(file),
-        Question::Lookup(s0, s1, s2, s3) => lookup(file, s0, s1, s2, s3),
-        Question::Verdict => verdict(file),
-        Question::Stretch(c) => printing::stretch_line(file, c),
-        Question::Nothing => usage(),
+    let count = os::arg_count();
+    let mut at: usize = 0;
+    let mut i: usize = 1;
+    while i < count {
+        if 1 < i {
+            if line.len() <= at {
+                return 0;
+            }
+            line[at] = b' ';
+            at += 1;
+        }
+        at += os::arg(i, &mut line[at..]);
+        i += 1;
     }
+    at
 }
 
-fn ask(asked: Question) {
-    let mut file = [0u8; 16385];
-    let n = io::read_full(STDIN_FILENO, &mut file);
-    answer(&file[..n], asked);
+// The first bytes of standard input; none are read for what is no question.
+fn read_for(line: &[u8], file: &mut [u8; FILE_BYTES]) -> usize
+    ensures { λ r. ⌜ Counts r (now (file .exit)) ⌝ }
+{
+    if let Question::Unknown = arguments::question_of(line) {
+        return 0;
+    }
+    io::read_full(STDIN_FILENO, file)
+}
+
+fn print(line: &[u8]) {
+    let mut file = [0u8; FILE_BYTES];
+    let n = read_for(line, &mut file);
+    let mut text = [0u8; TEXT_BYTES];
+    let m = answer_text(line, &file[..n], &mut text);
+    io::write_all(STDOUT_FILENO, &text[..m]);
 }
 
 fn main() {
-    let asked = question::asked_by_arguments();
-    if let Question::Nothing = asked {
-        usage();
-        return;
-    }
-    ask(asked);
+    let mut line = [0u8; 256];
+    let n = argument_line(&mut line);
+    print(&line[..n]);
 }

@@ -1,22 +1,21 @@
+use native.Mathlib.Omega.{arith}
 use borrow.Author.Needs.{needs}
+use Rattle.report.specs.Report.{Spelled}
+use Rattle.report.proofs.Lengths.{refusal-line-short}
+use Rattle.cursor.specs.Answers.{number}
+use Rattle.answers.specs.Listing.{refusalLine}
+use Rattle.answer_text.proofs.Buffers.{spelled}
 use Rattle.answer_text.proofs.refusal.Statement.{statement}
 use Rattle.answer_text.proofs.refusal.Tie as tie
-use Rattle.answer_text.proofs.refusal.Reads as reads
-use Rattle.answer_text.proofs.refusal.Lts as lts
-use Rattle.answer_text.proofs.put.Reads as put-reads
-use Rattle.queries.proofs.refusal_line.Reads as refusal-line-reads
 
--- src/lib.rt:40:9
-refusal-line-requires : tie.Need-refusal-line-requires
-refusal-line-requires c κs = search needs
+line : (c : tie.After-refusal-line) → Spelled (c .refusal-line .result) (refusalLine (number (c .before .args .cause)))
+line c = spelled _ _ (c .refusal-line .ensures) (omega (arith, refusal-line-short (number (c .before .args .cause))))
 
--- src/lib.rt:40:5
 put-requires : tie.Need-put-requires
-put-requires c κs = ?
+put-requires c κs = (_, line (c .before))
 
--- src/lib.rt:37:1
 returns : tie.Need-returns
-returns c = ?
+returns c = c .put .ensures _ (line (c .before .before))
 
 pub refusal-spec : {M : Type 1} → statement M
-refusal-spec = tie.close (tie.spec refusal-line-requires put-requires returns)
+refusal-spec = tie.close (tie.spec (λ c κs. search needs) put-requires returns)

@@ -1,67 +1,59 @@
+use lib.ListN.{length, length-take}
+use mathlib.Core.Path.{_≡_, sym, _∙_}
+use native.Mathlib.Omega.{arith}
+use Prim.Native.Nat.{_-_}
 use borrow.Author.Needs.{needs}
+use Rattle.answers.specs.Outcomes.{fullOutcome}
+use Rattle.answers.specs.Lines.{wordsLine}
+use Rattle.answer_text.proofs.Outcomes.{refused-text, entered}
+use Rattle.answer_text.proofs.Texts.{full-text, full-numbered}
+use Rattle.answer_text.proofs.Buffers.{made-same}
 use Rattle.answer_text.proofs.entries.full.Statement.{statement}
 use Rattle.answer_text.proofs.entries.full.Tie as tie
-use Rattle.answer_text.proofs.entries.full.Reads as reads
-use Rattle.answer_text.proofs.entries.full.Lts as lts
-use Rattle.answer_text.proofs.refusal.Reads as refusal-reads
-use Rattle.entry_queries.proofs.full_words.Reads as full-words-reads
-use Rattle.lines.proofs.words_line.Reads as words-line-reads
 
--- src/entries.rt:25:37
-slice-aggregate-full-words : tie.Need-slice-aggregate-full-words
-slice-aggregate-full-words c = search needs
-
--- src/entries.rt:25:11
-full-words-requires : tie.Need-full-words-requires
-full-words-requires c κs = search needs
-
--- src/entries.rt:26:26
-enum-known-cause : tie.Need-enum-known-cause
-enum-known-cause c = search needs
-
--- src/entries.rt:26:36
-refusal-requires : tie.Need-refusal-requires
-refusal-requires c κs = search needs
-
--- src/entries.rt:27:26
-enum-known-n : tie.Need-enum-known-n
-enum-known-n c = search needs
-
--- src/entries.rt:27:50
-sub-words-line : tie.Need-sub-words-line
-sub-words-line c = search needs
-
--- src/entries.rt:27:50
-part-words-line-start : tie.Need-part-words-line-start
-part-words-line-start c = search needs
-
--- src/entries.rt:27:50
 part-words-line-end : tie.Need-part-words-line-end
-part-words-line-end c = ?
+part-words-line-end c =
+    let n = c .before .before in
+    let q = n .before .before .before in
+    let file = q .before .before .before .args .file .now in
+    entered (fullOutcome file 4096) (full-numbered file) (n .n .given .0 .0) (n .n .given .1) (q .full-words .ensures .0) wordsLine .fits
 
--- src/entries.rt:27:32
 words-line-requires : tie.Need-words-line-requires
-words-line-requires c κs = ?
+words-line-requires c κs =
+    let n = c .before .before .before .before in
+    let q = n .before .before .before in
+    let words = q .full-words .last .1 .0 in
+    let long : length words ≡ 4096 = search needs in
+    let room : length (q .before .before .before .args .out .now) ≡ 45057 = search needs in
+    omega (arith, long, room, length-take (n .n .given .0 .0 - 0) words)
 
--- src/entries.rt:21:1
 returns : tie.Need-returns
-returns c = ?
+returns c =
+    let r = c .before .before .before in
+    let q = r .before .before .before in
+    let file = q .before .before .before .args .file .now in
+    made-same (refused-text (fullOutcome file 4096) (r .cause .given .0 .0) (r .cause .given .1) (q .full-words .ensures .0) wordsLine ∙ sym (full-text file))
+    (c .refusal .ensures)
 
--- src/entries.rt:21:1
 returns-2 : tie.Need-returns-2
-returns-2 c = ?
+returns-2 c =
+    let n = c .before .before .before .before .before in
+    let q = n .before .before .before in
+    let file = q .before .before .before .args .file .now in
+    made-same (entered (fullOutcome file 4096) (full-numbered file) (n .n .given .0 .0) (n .n .given .1) (q .full-words .ensures .0) wordsLine .text ∙ sym (full-text file))
+    (c .words-line .ensures)
 
 pub full-spec : {M : Type 1} → statement M
 full-spec =
     tie.close
     (tie.spec
-    slice-aggregate-full-words
-    full-words-requires
-    enum-known-cause
-    refusal-requires
-    enum-known-n
-    sub-words-line
-    part-words-line-start
+    (λ c. search needs)
+    (λ c κs. search needs)
+    (λ c. search needs)
+    (λ c κs. search needs)
+    (λ c. search needs)
+    (λ c. search needs)
+    (λ c. search needs)
     part-words-line-end
     words-line-requires
     returns

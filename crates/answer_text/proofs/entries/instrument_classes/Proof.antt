@@ -1,28 +1,22 @@
+use native.Mathlib.Omega.{arith}
 use borrow.Author.Needs.{needs}
+use Rattle.meaning.specs.File.Grammar.{Contents, instrumentOf}
+use Rattle.instrument.specs.Described.{Describes}
+use Rattle.answers.specs.Listing.{classLines}
+use Rattle.report.specs.Report.{Spelled}
+use Rattle.report.proofs.Lengths.{classes-length}
+use Rattle.answer_text.proofs.Buffers.{spelled}
 use Rattle.answer_text.proofs.entries.instrument_classes.Statement.{statement}
 use Rattle.answer_text.proofs.entries.instrument_classes.Tie as tie
-use Rattle.answer_text.proofs.entries.instrument_classes.Reads as reads
-use Rattle.answer_text.proofs.entries.instrument_classes.Lts as lts
-use Rattle.answer_text.proofs.put.Reads as put-reads
-use Rattle.partitions.proofs.all_classes.Reads as all-classes-reads
-use Rattle.report.proofs.class_text.Reads as class-text-reads
 
--- src/entries.rt:74:9
-all-classes-requires : tie.Need-all-classes-requires
-all-classes-requires c κs = search needs
+lines : (c : tie.After-class-text) (k : Contents) → Describes (c .before .before .args .t) k → Spelled (c .class-text .result) (classLines (instrumentOf k))
+lines c k d = spelled _ _ (c .class-text .ensures k d (c .before .all-classes .ensures k d)) (omega (arith, classes-length k (d .promised)))
 
--- src/entries.rt:75:9
-class-text-requires : tie.Need-class-text-requires
-class-text-requires c κs = search needs
-
--- src/entries.rt:75:5
 put-requires : tie.Need-put-requires
-put-requires c κs = ?
+put-requires c κs = let p = c .before .before .before .pre in (_, lines (c .before) (p .0) (p .1))
 
--- src/entries.rt:70:1
 returns : tie.Need-returns
-returns c = ?
+returns c = λ k d. c .put .ensures _ (lines (c .before .before) k d)
 
 pub instrument-classes-spec : {M : Type 1} → statement M
-instrument-classes-spec =
-    tie.close (tie.spec all-classes-requires class-text-requires put-requires returns)
+instrument-classes-spec = tie.close (tie.spec (λ c κs. search needs) (λ c κs. search needs) put-requires returns)

@@ -1,67 +1,69 @@
+use lib.ListN.{length, length-take}
+use mathlib.Core.Path.{_≡_, sym, ap, ap₂}
+use native.Mathlib.Nat.{mul-le-mul}
+use native.Mathlib.Omega.{arith}
+use Prim.Native.Nat.{_*_, _-_, _≤_}
 use borrow.Author.Needs.{needs}
+use Rattle.meaning.specs.File.Grammar.{instrumentOf}
+use Rattle.meaning.specs.Reference.Answers.{markWords}
+use Rattle.instrument.proofs.Bounds.{count-bounds, node-bounds}
+use Rattle.marks.proofs.AllMarks.{words-length}
+use Rattle.answers.specs.Lines.{markLines}
+use Rattle.answer_text.proofs.Outcomes.{taken}
+use Rattle.answer_text.proofs.Buffers.{made-same}
 use Rattle.answer_text.proofs.entries.instrument_marks.Statement.{statement}
 use Rattle.answer_text.proofs.entries.instrument_marks.Tie as tie
-use Rattle.answer_text.proofs.entries.instrument_marks.Reads as reads
-use Rattle.answer_text.proofs.entries.instrument_marks.Lts as lts
-use Rattle.lines.proofs.mark_lines.Reads as mark-lines-reads
-use Rattle.marks.proofs.nodes.write_marks.Reads as write-marks-reads
 
--- src/entries.rt:47:17
-cast-nodes : tie.Need-cast-nodes
-cast-nodes c = search needs
+few : (s : tie.Start) → 2 * s .args .t .components * s .args .t .nodecount ≤ 192
+few s =
+    let t = s .args .t in
+    let two : 2 * t .components ≤ 8 = omega (arith, count-bounds t (s .pre .0) (s .pre .1) .1) in
+    mul-le-mul two (node-bounds t (s .pre .0) (s .pre .1) .1)
 
--- src/entries.rt:48:17
-cast-n : tie.Need-cast-n
-cast-n c = search needs
-
--- src/entries.rt:48:13
-mul-n : tie.Need-mul-n
-mul-n c = search needs
-
--- src/entries.rt:48:13
-mul-n-2 : tie.Need-mul-n-2
-mul-n-2 c = ?
-
--- src/entries.rt:50:34
-slice-aggregate-write-marks : tie.Need-slice-aggregate-write-marks
-slice-aggregate-write-marks c = search needs
-
--- src/entries.rt:50:5
 write-marks-requires : tie.Need-write-marks-requires
-write-marks-requires c κs = ?
+write-marks-requires c κs =
+    let s = c .before .before .before in
+    (s .pre, omega (arith, few s))
 
--- src/entries.rt:51:30
-sub-mark-lines : tie.Need-sub-mark-lines
-sub-mark-lines c = search needs
-
--- src/entries.rt:51:30
-part-mark-lines-start : tie.Need-part-mark-lines-start
-part-mark-lines-start c = search needs
-
--- src/entries.rt:51:30
 part-mark-lines-end : tie.Need-part-mark-lines-end
-part-mark-lines-end c = ?
+part-mark-lines-end c =
+    let w = c .before .before in
+    let s = w .before .before .before .before in
+    let long : length (w .write-marks .last .1 .0) ≡ 192 = search needs in
+    omega (arith, few s, long)
 
--- src/entries.rt:51:5
 mark-lines-requires : tie.Need-mark-lines-requires
-mark-lines-requires c κs = ?
+mark-lines-requires c κs =
+    let w = c .before .before .before .before in
+    let s = w .before .before .before .before in
+    let t = s .args .t in
+    let room : length (s .args .out .now) ≡ 45057 = search needs in (
+      node-bounds t (s .pre .0) (s .pre .1) .0,
+      omega (arith, few s, length-take (2 * t .components * t .nodecount - 0) (w .write-marks .last .1 .0)),
+      omega (arith, room),
+    )
 
--- src/entries.rt:43:1
 returns : tie.Need-returns
-returns c = ?
+returns c =
+    λ k d.
+    let w = c .before .before .before .before .before in
+    let s = w .before .before .before .before in
+    made-same
+    (ap₂ markLines (ap (λ t. t .nodecount) (d .same)) (taken (markWords (instrumentOf k)) _ _ _ (sym (words-length (s .args .t) k d)) (w .write-marks .ensures k d)))
+    (c .mark-lines .ensures)
 
 pub instrument-marks-spec : {M : Type 1} → statement M
 instrument-marks-spec =
     tie.close
     (tie.spec
-    cast-nodes
-    cast-n
-    mul-n
-    mul-n-2
-    slice-aggregate-write-marks
+    (λ c. search needs)
+    (λ c. search needs)
+    (λ c. search needs)
+    (λ c. omega (arith, few (c .before .before)))
+    (λ c. search needs)
     write-marks-requires
-    sub-mark-lines
-    part-mark-lines-start
+    (λ c. search needs)
+    (λ c. search needs)
     part-mark-lines-end
     mark-lines-requires
     returns)

@@ -1,67 +1,59 @@
+use lib.ListN.{length, length-take}
+use mathlib.Core.Path.{_≡_, sym, _∙_}
+use native.Mathlib.Omega.{arith}
+use Prim.Native.Nat.{_-_}
 use borrow.Author.Needs.{needs}
+use Rattle.answers.specs.Outcomes.{mergedOutcome}
+use Rattle.answers.specs.Lines.{wordsLine}
+use Rattle.answer_text.proofs.Outcomes.{refused-text, entered}
+use Rattle.answer_text.proofs.Texts.{merged-text, merged-numbered}
+use Rattle.answer_text.proofs.Buffers.{made-same}
 use Rattle.answer_text.proofs.entries.merged.Statement.{statement}
 use Rattle.answer_text.proofs.entries.merged.Tie as tie
-use Rattle.answer_text.proofs.entries.merged.Reads as reads
-use Rattle.answer_text.proofs.entries.merged.Lts as lts
-use Rattle.answer_text.proofs.refusal.Reads as refusal-reads
-use Rattle.entry_queries.proofs.merged_words.Reads as merged-words-reads
-use Rattle.lines.proofs.words_line.Reads as words-line-reads
 
--- src/entries.rt:36:39
-slice-aggregate-merged-words : tie.Need-slice-aggregate-merged-words
-slice-aggregate-merged-words c = search needs
-
--- src/entries.rt:36:11
-merged-words-requires : tie.Need-merged-words-requires
-merged-words-requires c κs = search needs
-
--- src/entries.rt:37:26
-enum-known-cause : tie.Need-enum-known-cause
-enum-known-cause c = search needs
-
--- src/entries.rt:37:36
-refusal-requires : tie.Need-refusal-requires
-refusal-requires c κs = search needs
-
--- src/entries.rt:38:26
-enum-known-n : tie.Need-enum-known-n
-enum-known-n c = search needs
-
--- src/entries.rt:38:50
-sub-words-line : tie.Need-sub-words-line
-sub-words-line c = search needs
-
--- src/entries.rt:38:50
-part-words-line-start : tie.Need-part-words-line-start
-part-words-line-start c = search needs
-
--- src/entries.rt:38:50
 part-words-line-end : tie.Need-part-words-line-end
-part-words-line-end c = ?
+part-words-line-end c =
+    let n = c .before .before in
+    let q = n .before .before .before in
+    let file = q .before .before .before .args .file .now in
+    entered (mergedOutcome file 4096) (merged-numbered file) (n .n .given .0 .0) (n .n .given .1) (q .merged-words .ensures .0) wordsLine .fits
 
--- src/entries.rt:38:32
 words-line-requires : tie.Need-words-line-requires
-words-line-requires c κs = ?
+words-line-requires c κs =
+    let n = c .before .before .before .before in
+    let q = n .before .before .before in
+    let words = q .merged-words .last .1 .0 in
+    let long : length words ≡ 4096 = search needs in
+    let room : length (q .before .before .before .args .out .now) ≡ 45057 = search needs in
+    omega (arith, long, room, length-take (n .n .given .0 .0 - 0) words)
 
--- src/entries.rt:32:1
 returns : tie.Need-returns
-returns c = ?
+returns c =
+    let r = c .before .before .before in
+    let q = r .before .before .before in
+    let file = q .before .before .before .args .file .now in
+    made-same (refused-text (mergedOutcome file 4096) (r .cause .given .0 .0) (r .cause .given .1) (q .merged-words .ensures .0) wordsLine ∙ sym (merged-text file))
+    (c .refusal .ensures)
 
--- src/entries.rt:32:1
 returns-2 : tie.Need-returns-2
-returns-2 c = ?
+returns-2 c =
+    let n = c .before .before .before .before .before in
+    let q = n .before .before .before in
+    let file = q .before .before .before .args .file .now in
+    made-same (entered (mergedOutcome file 4096) (merged-numbered file) (n .n .given .0 .0) (n .n .given .1) (q .merged-words .ensures .0) wordsLine .text ∙ sym (merged-text file))
+    (c .words-line .ensures)
 
 pub merged-spec : {M : Type 1} → statement M
 merged-spec =
     tie.close
     (tie.spec
-    slice-aggregate-merged-words
-    merged-words-requires
-    enum-known-cause
-    refusal-requires
-    enum-known-n
-    sub-words-line
-    part-words-line-start
+    (λ c. search needs)
+    (λ c κs. search needs)
+    (λ c. search needs)
+    (λ c κs. search needs)
+    (λ c. search needs)
+    (λ c. search needs)
+    (λ c. search needs)
     part-words-line-end
     words-line-requires
     returns

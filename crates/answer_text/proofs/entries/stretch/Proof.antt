@@ -1,54 +1,56 @@
+use mathlib.Core.Path.{_≡_, sym, ap, _∙_}
+use Prim.Native.Nat.{ℕ}
+use native.Mathlib.Omega.{arith}
+use lib.ListN.{length}
 use borrow.Author.Needs.{needs}
+use Rattle.meaning.specs.File.Stretches.{located}
+use Rattle.answers.specs.Lines.{hexadecimalLine}
+use Rattle.reader.specs.Outcomes.{faultNumber}
+use Rattle.stretch_query.specs.Components.{askedNumber}
+use Rattle.answer_text.proofs.Texts.{stretch-refused, stretch-given, stretch-short}
+use Rattle.answer_text.proofs.Buffers.{made-same}
 use Rattle.answer_text.proofs.entries.stretch.Statement.{statement}
 use Rattle.answer_text.proofs.entries.stretch.Tie as tie
-use Rattle.answer_text.proofs.entries.stretch.Reads as reads
-use Rattle.answer_text.proofs.entries.stretch.Lts as lts
-use Rattle.answer_text.proofs.refusal.Reads as refusal-reads
-use Rattle.lines.proofs.hexadecimal_line.Reads as hexadecimal-line-reads
-use Rattle.stretch_query.proofs.component_bytes.Reads as component-bytes-reads
-use Rattle.stretch_query.proofs.component_refusal.Reads as component-refusal-reads
 
--- src/entries.rt:107:11
-component-refusal-requires : tie.Need-component-refusal-requires
-component-refusal-requires c κs = search needs
+-- the question is not refused
+fine : (c : tie.After-enum-told) → let q = c .before .before in
+    _≡_ {A = ℕ} 0 (faultNumber (located (q .before .before .args .file .now) (q .before .before .args .c)))
+fine c = ap askedNumber (sym (c .enum-told .given .1)) ∙ c .before .before .component-refusal .ensures
 
--- src/entries.rt:108:24
-enum-known-cause : tie.Need-enum-known-cause
-enum-known-cause c = search needs
+-- the buffer's length
+room : (c : tie.After-hexadecimal-line-arg) → length (c .before .before .before .before .before .before .args .out .now) ≡ 45057
+room c = search needs
 
--- src/entries.rt:108:34
-refusal-requires : tie.Need-refusal-requires
-refusal-requires c κs = search needs
-
--- src/entries.rt:109:48
-enum-told : tie.Need-enum-told
-enum-told c = search needs
-
--- src/entries.rt:109:48
-component-bytes-requires : tie.Need-component-bytes-requires
-component-bytes-requires c κs = search needs
-
--- src/entries.rt:109:24
 hexadecimal-line-requires : tie.Need-hexadecimal-line-requires
-hexadecimal-line-requires c κs = ?
+hexadecimal-line-requires c κs =
+    let b = c .before in
+    let e = b .before in
+    let s = e .before .before .before .before in
+    omega (arith, room c, stretch-short (s .args .file .now) (s .args .c) (fine e) (b .component-bytes .result .now) (b .component-bytes .ensures .0))
 
--- src/entries.rt:104:1
 returns : tie.Need-returns
-returns c = ?
+returns c =
+    let r = c .before .before .before in
+    let q = r .before .before in
+    let a = q .before .before .args in
+    made-same (sym (stretch-refused (a .file .now) (a .c) (r .cause .given .0 .0) (ap askedNumber (sym (r .cause .given .1)) ∙ q .component-refusal .ensures))) (c .refusal .ensures)
 
--- src/entries.rt:104:1
 returns-2 : tie.Need-returns-2
-returns-2 c = ?
+returns-2 c =
+    let b = c .before .before in
+    let e = b .before in
+    let a = e .before .before .before .before .args in
+    made-same (ap hexadecimalLine (b .component-bytes .ensures .0) ∙ sym (stretch-given (a .file .now) (a .c) (fine e))) (c .hexadecimal-line .ensures)
 
 pub stretch-spec : {M : Type 1} → statement M
 stretch-spec =
     tie.close
     (tie.spec
-    component-refusal-requires
-    enum-known-cause
-    refusal-requires
-    enum-told
-    component-bytes-requires
+    (λ c κs. search needs)
+    (λ c. search needs)
+    (λ c κs. search needs)
+    (λ c. search needs)
+    (λ c κs. search needs)
     hexadecimal-line-requires
     returns
     returns-2)

@@ -1,27 +1,26 @@
+use mathlib.Core.Path.{ap}
+use native.Mathlib.Omega.{arith}
 use borrow.Author.Needs.{needs}
+use Rattle.answers.specs.Lines.{lookupLine}
+use Rattle.answers.specs.Printed.{printed}
+use Rattle.value_queries.specs.Told.{lookedReply}
+use Rattle.report.specs.Report.{Spelled}
+use Rattle.lines.proofs.Lengths.{lookup-line-short}
+use Rattle.answer_text.proofs.Buffers.{spelled, made-same}
 use Rattle.answer_text.proofs.values.lookup.Statement.{statement}
 use Rattle.answer_text.proofs.values.lookup.Tie as tie
-use Rattle.answer_text.proofs.values.lookup.Reads as reads
-use Rattle.answer_text.proofs.values.lookup.Lts as lts
-use Rattle.answer_text.proofs.put.Reads as put-reads
-use Rattle.answer_text.proofs.values.lookup_text.Reads as lookup-text-reads
-use Rattle.value_queries.proofs.lookup.Reads as lookup-reads
 
--- src/values.rt:36:9
-lookup-requires : tie.Need-lookup-requires
-lookup-requires c κs = search needs
+line : (c : tie.After-lookup-text) → Spelled (c .lookup-text .result) (lookupLine (lookedReply (c .before .lookup .result)))
+line c = spelled _ _ (c .lookup-text .ensures) (omega (arith, lookup-line-short (lookedReply (c .before .lookup .result))))
 
--- src/values.rt:37:9
-lookup-text-requires : tie.Need-lookup-text-requires
-lookup-text-requires c κs = search needs
-
--- src/values.rt:37:5
 put-requires : tie.Need-put-requires
-put-requires c κs = ?
+put-requires c κs = (_, line (c .before))
 
--- src/values.rt:26:1
 returns : tie.Need-returns
-returns c = ?
+unfolding printed
+returns c =
+    let t = c .before .before in
+    made-same (ap lookupLine (t .before .lookup .ensures .0)) (c .put .ensures _ (line t))
 
 pub lookup-spec : {M : Type 1} → statement M
-lookup-spec = tie.close (tie.spec lookup-requires lookup-text-requires put-requires returns)
+lookup-spec = tie.close (tie.spec (λ c κs. search needs) (λ c κs. search needs) put-requires returns)

@@ -1,22 +1,21 @@
+use lib.Dec.{lit≤}
+use lib.ListN.{length}
+use Prim.Native.Nat.{_≤_}
 use borrow.Author.Needs.{needs}
+use Rattle.answers.specs.Printed.{usageLine}
+use Rattle.answer_text.proofs.Buffers.{spelled}
 use Rattle.answer_text.proofs.values.usage.Statement.{statement}
 use Rattle.answer_text.proofs.values.usage.Tie as tie
-use Rattle.answer_text.proofs.values.usage.Reads as reads
-use Rattle.answer_text.proofs.values.usage.Lts as lts
-use Rattle.answer_text.proofs.put.Reads as put-reads
-use Rattle.answer_text.proofs.values.usage_text.Reads as usage-text-reads
 
--- src/values.rt:72:9
-usage-text-requires : tie.Need-usage-text-requires
-usage-text-requires c κs = search needs
+short : length usageLine ≤ 2048
+unfolding usageLine
+short = lit≤ tt
 
--- src/values.rt:72:5
 put-requires : tie.Need-put-requires
-put-requires c κs = ?
+put-requires c κs = (usageLine, spelled _ _ (c .before .usage-text .ensures) short)
 
--- src/values.rt:69:1
 returns : tie.Need-returns
-returns c = ?
+returns c = c .put .ensures usageLine (spelled _ _ (c .before .before .usage-text .ensures) short)
 
 pub usage-spec : {M : Type 1} → statement M
-usage-spec = tie.close (tie.spec usage-text-requires put-requires returns)
+usage-spec = tie.close (tie.spec (λ c κs. search needs) put-requires returns)

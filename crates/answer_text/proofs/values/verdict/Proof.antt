@@ -1,27 +1,26 @@
+use mathlib.Core.Path.{ap}
+use native.Mathlib.Omega.{arith}
 use borrow.Author.Needs.{needs}
+use Rattle.answers.specs.Lines.{judgementLine}
+use Rattle.answers.specs.Printed.{printed}
+use Rattle.value_queries.specs.Told.{judgedReply}
+use Rattle.report.specs.Report.{Spelled}
+use Rattle.lines.proofs.Lengths.{judgement-line-short}
+use Rattle.answer_text.proofs.Buffers.{spelled, made-same}
 use Rattle.answer_text.proofs.values.verdict.Statement.{statement}
 use Rattle.answer_text.proofs.values.verdict.Tie as tie
-use Rattle.answer_text.proofs.values.verdict.Reads as reads
-use Rattle.answer_text.proofs.values.verdict.Lts as lts
-use Rattle.answer_text.proofs.put.Reads as put-reads
-use Rattle.answer_text.proofs.values.verdict_text.Reads as verdict-text-reads
-use Rattle.value_queries.proofs.verdict.Reads as verdict-reads
 
--- src/values.rt:55:9
-verdict-requires : tie.Need-verdict-requires
-verdict-requires c κs = search needs
+line : (c : tie.After-verdict-text) → Spelled (c .verdict-text .result) (judgementLine (judgedReply (c .before .verdict .result)))
+line c = spelled _ _ (c .verdict-text .ensures) (omega (arith, judgement-line-short (judgedReply (c .before .verdict .result))))
 
--- src/values.rt:56:9
-verdict-text-requires : tie.Need-verdict-text-requires
-verdict-text-requires c κs = search needs
-
--- src/values.rt:56:5
 put-requires : tie.Need-put-requires
-put-requires c κs = ?
+put-requires c κs = (_, line (c .before))
 
--- src/values.rt:52:1
 returns : tie.Need-returns
-returns c = ?
+unfolding printed
+returns c =
+    let t = c .before .before in
+    made-same (ap judgementLine (t .before .verdict .ensures .0)) (c .put .ensures _ (line t))
 
 pub verdict-spec : {M : Type 1} → statement M
-verdict-spec = tie.close (tie.spec verdict-requires verdict-text-requires put-requires returns)
+verdict-spec = tie.close (tie.spec (λ c κs. search needs) (λ c κs. search needs) put-requires returns)

@@ -1,0 +1,106 @@
+-- The text of an outcome, and what an answer says of it.
+use mathlib.Core.Path.{_≡_, refl, ap, ap₂, subst, _∙_}
+use mathlib.Core.Bool.{Bool, true, false}
+use mathlib.Core.List.{List, _++_}
+use lib.Dec.{leb}
+use lib.ListN.{length, take, drop, length-append}
+use lib.Seq.{take-append-seam}
+use native.Mathlib.Omega.{arith}
+use Prim.Native.Nat.{ℕ, _-_, _≤_}
+use Rattle.meaning.specs.Instrument.{Instrument}
+use Rattle.meaning.specs.File.Parser.{Got, found, fault}
+use Rattle.meaning.specs.File.Number.{choose}
+use Rattle.meaning.specs.File.Grammar.{Contents, readFile}
+use Rattle.meaning.specs.Reference.Answers.{Outcome, refused, entries, fitting, lentAfter}
+use Rattle.meaning.proofs.File.Faults.{file-faults}
+use Rattle.cursor.specs.Answers.{number}
+use Rattle.cursor.specs.declared.Refusal.{Refusal}
+use Rattle.answers.specs.Outcomes.{after, within}
+use Rattle.answers.specs.Listing.{refusalLine}
+use Rattle.entry_queries.specs.declared.Written.{Written}
+use Rattle.entry_queries.specs.declared.Written.the-variants.{Entries, Refused}
+use Rattle.entry_queries.specs.Written.{Answered}
+use Rattle.entry_queries.proofs.Answering.{number-some}
+use Rattle.lines.specs.Made.{Made}
+
+abbrev pub outcomeText : (List ℕ → List ℕ) → Outcome → List ℕ
+outcomeText f (refused r) = refusalLine r
+outcomeText f (entries vs) = f vs
+
+-- a refusal has a number above 0
+abbrev pub Numbered : Outcome → Type 0
+Numbered (refused r) = 1 ≤ r
+Numbered (entries vs) = Unit {0}
+
+pub fitting-numbered : (room : ℕ) (vs : List ℕ) → Numbered (fitting room vs)
+fitting-numbered room vs = go (leb (length vs) room)
+  where
+    go : (b : Bool) → Numbered (choose b (entries vs) (refused 13))
+    go true = tt
+    go false = omega arith
+
+pub within-numbered : (size n : ℕ) (o : Outcome) → 1 ≤ n → Numbered o → Numbered (within size n o)
+within-numbered size n o h p = go (leb size 4096)
+  where
+    go : (b : Bool) → Numbered (choose b o (refused n))
+    go true = p
+    go false = h
+
+pub after-numbered : (file : List ℕ) (f : Instrument → Outcome) → ((I : Instrument) → Numbered (f I)) → Numbered (after (readFile file) f)
+after-numbered file f h = go (readFile file) refl
+  where
+    go : (g : Got Contents) → readFile file ≡ g → Numbered (after g f)
+    go (found k end) e = h _
+    go (fault r) e = file-faults file r e .0
+
+-- a refused answer
+module _ (o : Outcome) (cause : Refusal) {w : Written} {old new : List ℕ} (e : w ≡ Refused cause) (a : Answered o w old new) where
+  by : Answered o (Refused cause) old new
+  by = subst (λ w. Answered o w old new) e a
+
+  pub refused-text : (f : List ℕ → List ℕ) → refusalLine (number cause) ≡ outcomeText f o
+  refused-text f = go o by
+    where
+      go : (o : Outcome) → Answered o (Refused cause) old new → refusalLine (number cause) ≡ outcomeText f o
+      go (refused r) a = ap refusalLine (a .number)
+      go (entries vs) a = absurd (number-some cause (a .number))
+
+  pub refused-kept : new ≡ old
+  refused-kept = go o by
+    where
+      go : (o : Outcome) → Answered o (Refused cause) old new → new ≡ old
+      go (refused r) a = a .buffer
+      go (entries vs) a = absurd (number-some cause (a .number))
+
+-- an answer that was given: its entries stand in front of the buffer
+pub record Entered (f : List ℕ → List ℕ) (o : Outcome) (n : ℕ) (new : List ℕ) : Type 0 where
+  pub fits : n ≤ length new
+  pub text : f (take (n - 0) new) ≡ outcomeText f o
+
+pub taken : (vs old new : List ℕ) (n : ℕ) → n ≡ length vs → new ≡ lentAfter (entries vs) old → take (n - 0) new ≡ vs
+taken vs old new n c b =
+    let e : n - 0 ≡ length vs = omega (arith, c) in
+    ap₂ (λ n l. take n l) e b ∙ take-append-seam vs (drop (length vs) old)
+
+module _ (o : Outcome) (p : Numbered o) (n : ℕ) {w : Written} {old new : List ℕ} (e : w ≡ Entries n) (a : Answered o w old new) where
+  so : Answered o (Entries n) old new
+  so = subst (λ w. Answered o w old new) e a
+
+  pub entered : (f : List ℕ → List ℕ) → Entered f o n new
+  entered f = go o p so
+    where
+      go : (o : Outcome) → Numbered o → Answered o (Entries n) old new → Entered f o n new
+      go (refused r) p a = absurd (omega (arith, p, a .number))
+      go (entries vs) p a =
+          record {
+            fits = omega (arith, a .count, ap length (a .buffer), length-append vs (drop (length vs) old));
+            text = ap f (taken vs old new n (a .count) (a .buffer));
+          }
+
+  -- entries that are the text
+  pub entered-made : Made (outcomeText (λ vs. vs) o) n old new
+  entered-made = go o p so
+    where
+      go : (o : Outcome) → Numbered o → Answered o (Entries n) old new → Made (outcomeText (λ vs. vs) o) n old new
+      go (refused r) p a = absurd (omega (arith, p, a .number))
+      go (entries vs) p a = record { count = a .count; buffer = a .buffer }

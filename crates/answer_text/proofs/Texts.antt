@@ -1,0 +1,136 @@
+-- Each question's text, from its outcome or from what was read.
+use mathlib.Core.Path.{_≡_, refl, sym, ap, subst, _∙_}
+use mathlib.Core.Bool.{Bool, true, false}
+use mathlib.Core.List.{List}
+use lib.Dec.{T, leb, ltb, leb→le}
+use lib.ListN.{length, take, drop, length-take, length-drop}
+use native.Mathlib.Omega.{arith}
+use borrow.Author.Tests.{le-leb}
+use Prim.Native.Nat.{ℕ, _+_, _-_, _*_, _≤_}
+use Rattle.meaning.specs.Instrument.{Instrument}
+use Rattle.meaning.specs.Verdict.{Answer, judged, clash, oversized}
+use Rattle.meaning.specs.File.Parser.{Got, found, fault, on}
+use Rattle.meaning.specs.File.Number.{choose}
+use Rattle.meaning.specs.File.Grammar.{Contents, instrumentOf, limits, readFile}
+use Rattle.meaning.specs.File.Promise.{Promised}
+use Rattle.meaning.specs.File.Stretches.{Stretch, stretchOf, located, startOf, endOf}
+use Rattle.meaning.specs.Reference.Answers.{refused, entries, fitting, listBelow, fullCount, fullWord, fullWords, mergedSize, mergedWord, mergedWords}
+use Rattle.meaning.proofs.Basic.Entries.{list-length}
+use Rattle.meaning.proofs.File.Reads.{file-promised}
+use Rattle.meaning.proofs.File.Longest.{no-longer}
+use Rattle.meaning.proofs.File.Faults.{located-faults}
+use Rattle.cursor.specs.Answers.{number}
+use Rattle.cursor.specs.declared.Refusal.{Refusal}
+use Rattle.answers.specs.Outcomes.{Reply, given, denied, Judgement, judgement, verdictOf, after, within, fullOutcome, mergedOutcome, componentBytes}
+use Rattle.answers.specs.Listing.{refusalLine, listed, listingText, listingOutcome}
+use Rattle.answers.specs.Lines.{wordsLine, hexadecimalLine}
+use Rattle.answers.specs.Questions.{full, merged, listing, stretch}
+use Rattle.answers.specs.Printed.{printed, textAfter, textWithin, listedText, stretchText}
+use Rattle.reader.specs.Outcomes.{faultNumber}
+use Rattle.report.proofs.Lengths.{listing-length}
+use Rattle.entry_queries.proofs.Answering.{number-some}
+use Rattle.answer_text.proofs.Outcomes.{outcomeText, Numbered, fitting-numbered, within-numbered, after-numbered}
+
+-- a buffer of 4,096 words has room for the words of every combination that is built
+words-text : (size r : ℕ) (f : ℕ → ℕ)
+    → textWithin size r (wordsLine (listBelow size f)) ≡ outcomeText wordsLine (within size r (fitting 4096 (listBelow size f)))
+words-text size r f = go (leb size 4096) refl
+  where
+    go : (b : Bool) → leb size 4096 ≡ b
+        → choose b (wordsLine (listBelow size f)) (refusalLine r) ≡ outcomeText wordsLine (choose b (fitting 4096 (listBelow size f)) (refused r))
+    go true e =
+        let h : length (listBelow size f) ≤ 4096 = omega (arith, list-length size f, leb→le size 4096 (subst T (sym e) tt)) in
+        rw (le-leb (length (listBelow size f)) 4096 h) refl
+    go false e = refl
+
+module _ (file : List ℕ) where
+  pub full-text : printed full file ≡ outcomeText wordsLine (fullOutcome file 4096)
+  unfolding printed fullOutcome
+  full-text = go (readFile file)
+    where
+      go : (g : Got Contents) → textAfter g (λ I. textWithin (fullCount I) 11 (wordsLine (fullWords I)))
+          ≡ outcomeText wordsLine (after g (λ I. within (fullCount I) 11 (fitting 4096 (fullWords I))))
+      go (found k end) = words-text (fullCount (instrumentOf k)) 11 (fullWord (instrumentOf k))
+      go (fault r) = refl
+
+  pub full-numbered : Numbered (fullOutcome file 4096)
+  unfolding fullOutcome
+  full-numbered = after-numbered file _ (λ I. within-numbered (fullCount I) 11 _ (omega arith) (fitting-numbered 4096 (fullWords I)))
+
+  pub merged-text : printed merged file ≡ outcomeText wordsLine (mergedOutcome file 4096)
+  unfolding printed mergedOutcome
+  merged-text = go (readFile file)
+    where
+      go : (g : Got Contents) → textAfter g (λ I. textWithin (mergedSize I) 12 (wordsLine (mergedWords I)))
+          ≡ outcomeText wordsLine (after g (λ I. within (mergedSize I) 12 (fitting 4096 (mergedWords I))))
+      go (found k end) = words-text (mergedSize (instrumentOf k)) 12 (mergedWord (instrumentOf k))
+      go (fault r) = refl
+
+  pub merged-numbered : Numbered (mergedOutcome file 4096)
+  unfolding mergedOutcome
+  merged-numbered = after-numbered file _ (λ I. within-numbered (mergedSize I) 12 _ (omega arith) (fitting-numbered 4096 (mergedWords I)))
+
+  -- the listing has at most 2,048 bytes
+  pub listing-text : (room : ℕ) → 2048 ≤ room → printed listing file ≡ outcomeText (λ vs. vs) (listingOutcome file room)
+  unfolding printed listingOutcome
+  listing-text room h = go (readFile file) refl
+    where
+      told : (k : Contents) → Promised limits k → (r : Reply Judgement) → listedText (instrumentOf k) r ≡ outcomeText (λ vs. vs) (listed (instrumentOf k) room r)
+      told k p (given j) = rw (le-leb (length (listingText (instrumentOf k) j)) room (omega (arith, listing-length k p j))) refl
+      told k p (denied r) = refl
+
+      go : (g : Got Contents) → readFile file ≡ g → textAfter g (λ I. listedText I (judgement (verdictOf I)))
+          ≡ outcomeText (λ vs. vs) (after g (λ I. listed I room (judgement (verdictOf I))))
+      go (found k end) e = told k (file-promised file k end e) (judgement (verdictOf (instrumentOf k)))
+      go (fault r) e = refl
+
+  pub listing-numbered : (room : ℕ) → Numbered (listingOutcome file room)
+  unfolding listingOutcome
+  listing-numbered room = after-numbered file _ (λ I. told I (verdictOf I))
+    where
+      told : (I : Instrument) (a : Answer) → Numbered (listed I room (judgement a))
+      told I (judged v s) = fitting-numbered room (listingText I (record { verdict = v; stage = s }))
+      told I clash = omega arith
+      told I oversized = omega arith
+
+-- a component's bytes: refused
+module _ (file : List ℕ) (c : ℕ) where
+  pub stretch-refused : (cause : Refusal) → number cause ≡ faultNumber (located file c) → printed (stretch c) file ≡ refusalLine (number cause)
+  unfolding printed
+  stretch-refused cause e = go (located file c) e
+    where
+      go : (g : Got Stretch) → number cause ≡ faultNumber g → stretchText g (componentBytes file c) ≡ refusalLine (number cause)
+      go (found s end) e = absurd (number-some cause e)
+      go (fault r) e = ap refusalLine (sym e)
+
+  -- or handed back
+  located-found : (X : Type 0) → 0 ≡ faultNumber (located file c) → ((s : Stretch) (end : ℕ) → located file c ≡ found s end → X) → X
+  located-found X z h = go (located file c) refl z
+    where
+      go : (g : Got Stretch) → located file c ≡ g → 0 ≡ faultNumber g → X
+      go (found s end) e z = h s end e
+      go (fault r) e z = absurd (omega (arith, located-faults file c r e .0))
+
+  pub stretch-given : 0 ≡ faultNumber (located file c) → printed (stretch c) file ≡ hexadecimalLine (componentBytes file c)
+  unfolding printed
+  stretch-given z = located-found _ z (λ s end e. ap (λ g. stretchText g (componentBytes file c)) e)
+
+  accepted-short : (s : Stretch) (end : ℕ) → located file c ≡ found s end → length file ≤ 10771
+  accepted-short s end e = go (readFile file) refl e
+    where
+      go : (g : Got Contents) → readFile file ≡ g
+          → on g (λ k end. choose (ltb c (length (k .components))) (stretchOf c file 0) (fault 3)) ≡ found s end → length file ≤ 10771
+      go (found k at) r e = no-longer file k at r .1
+      go (fault r) q e = let z : _≡_ {A = ℕ} 0 1 = cc in let y : ⊥ = omega arith in absurd y
+
+  pub stretch-short : 0 ≡ faultNumber (located file c) → (bytes : List ℕ) → bytes ≡ componentBytes file c → 2 * length bytes + 1 ≤ 45057
+  stretch-short z bytes b =
+      located-found _ z (λ s end e.
+      let g = located file c in
+      omega (
+        arith,
+        ap length b,
+        length-take (endOf g - startOf g) (drop (startOf g) file),
+        length-drop (startOf g) file,
+        accepted-short s end e,
+      ))
