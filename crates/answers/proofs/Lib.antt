@@ -1,5 +1,6 @@
 pub mod Means
 pub mod Starts
+pub mod Parts
 pub mod Limit
 pub mod Inhabited
 pub mod Printed

@@ -2,9 +2,9 @@
 use mathlib.Core.Path.{_≡_}
 use mathlib.Core.Bool.{Bool}
 use mathlib.Core.Logic.{_↔_, _≢_}
-use mathlib.Core.List.{List}
+use mathlib.Core.List.{List, [], _++_}
 use lib.Dec.{T}
-use lib.ListN.{length, getD}
+use lib.ListN.{length, getD, take}
 use Prim.Native.Nat.{ℕ, zero, suc, _+_, _*_, _≤_, _<_}
 use Rattle.words.specs.Sets.{has}
 use Rattle.meaning.specs.Tests.{All}
@@ -20,7 +20,8 @@ use Rattle.meaning.specs.Classes.{ClassNames}
 use Rattle.meaning.specs.Merged.{mergedIndex}
 use Rattle.meaning.specs.Verdict.{Right, HasPass, HasFail, judged}
 use Rattle.meaning.specs.File.Parser.{found}
-use Rattle.meaning.specs.File.Grammar.{Contents, instrumentOf, readFile}
+use Rattle.meaning.specs.File.Grammar.{Contents, instrumentOf, limits, component, drivenBy, readFile}
+use Rattle.meaning.specs.File.Promise.{componentAt}
 use Rattle.meaning.specs.Reference.Answers.{classesAt, mergedSize}
 use Rattle.answers.specs.Outcomes.{Judgement}
 
@@ -98,3 +99,22 @@ pub record VerdictMeans (j : Judgement) (I : Instrument) : Type 0 where
   pub right : let n = components I in let S = table I in
       Right (λ s. HasPass n S (λ i. wholeWords (S i)) (rootFormula I) (start s .at)) (λ s. HasFail n S (λ i. wholeWords (S i)) (rootFormula I) (start s .at))
       (λ s. Truth n S (high n S) (rootFormula I) (start s)) (I .starts) (mergedSize I ≤ 4096) (judged (j .verdict) (j .stage))
+
+-- the file is accepted and has component c
+pub record HasComponent (file : List ℕ) (c : ℕ) : Type 0 where
+  pub contents : Contents
+  pub end : ℕ
+  pub read : readFile file ≡ found contents end
+  pub below : c < length (contents .components)
+
+-- The stretch of component c. The part is not empty and lies in the file; and the component's own parser, from the part's first byte on, reads
+-- the file's component c and ends with the part's last byte.
+pub record StretchMeans (file : List ℕ) (c : ℕ) (part : List ℕ) : Type 0 where
+  pub has : HasComponent file c
+  pub some : part ≢ []
+  pub before : List ℕ
+  pub after : List ℕ
+  pub lies : before ++ (part ++ after) ≡ file
+  pub itself : let k = has .contents in
+      component limits (k .signals) (drivenBy 0 (take c (k .components))) file (length before)
+      ≡ found (componentAt k c) (length before + length part)

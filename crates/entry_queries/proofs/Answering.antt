@@ -12,16 +12,14 @@ use Rattle.meaning.specs.File.Parser.{Got, found, fault}
 use Rattle.meaning.specs.File.Number.{choose}
 use Rattle.meaning.specs.File.Grammar.{Contents, instrumentOf, readFile}
 use Rattle.meaning.specs.Reference.Answers.{Outcome, refused, entries, lentAfter, fitting}
-use Rattle.meaning.proofs.File.Reads.{file-promised}
 use Rattle.meaning.proofs.File.Accepted.{file-accepted}
 use Rattle.cursor.specs.Answers.{number}
 use Rattle.cursor.specs.declared.Refusal.{Refusal}
 use Rattle.cursor.specs.declared.Refusal.the-variants as refusals
 use Rattle.parsing.specs.declared.Outcome as told
 use Rattle.parsing.specs.declared.Outcome.the-variants as outcomes
-use Rattle.reader.specs.Outcomes.{Tells, layoutOf}
+use Rattle.reader.specs.Outcomes.{Tells, Found}
 use Rattle.instrument.specs.declared.Instrument as code
-use Rattle.instrument.specs.Described.{Describes}
 use Rattle.answers.specs.Outcomes.{after, within}
 use Rattle.answers.specs.Means.{Holds}
 use Rattle.entry_queries.specs.declared.Written.{Written}
@@ -49,25 +47,6 @@ number-some refusals.Short e = absurd (omega arith)
 number-some refusals.Clash e = absurd (omega arith)
 
 -- what the reader found
-pub record Found (file : List ℕ) (t : code.Instrument) : Type 0 where
-  pub contents : Contents
-  pub end : ℕ
-  pub read : readFile file ≡ found contents end
-  pub describes : Describes t contents
-
-pub accepted-found : (file : List ℕ) (t : code.Instrument) → Tells outcomes.Accepted (readFile file) → t ≡ layoutOf (readFile file) → Found file t
-accepted-found file t h e = go (readFile file) refl h e
-  where
-    go : (g : Got Contents) → readFile file ≡ g → Tells outcomes.Accepted g → t ≡ layoutOf g → Found file t
-    go (found k end) r h e =
-        record { contents = k; end = end; read = r; describes = record { same = e; promised = file-promised file k end r } }
-    go (fault n) r h e = absurd h
-
--- the same from an outcome that is found to be accepted
-pub found-by : (file : List ℕ) (t : code.Instrument) (o : Told) → o ≡ outcomes.Accepted → Tells o (readFile file) → t ≡ layoutOf (readFile file)
-    → Found file t
-found-by file t o e h l = accepted-found file t (subst (λ o. Tells o (readFile file)) e h) l
-
 pub refused-fault : (g : Got Contents) (cause : Refusal) → Tells (outcomes.Refused cause) g → g ≡ fault (number cause)
 refused-fault (found k end) cause h = absurd h
 refused-fault (fault r) cause h = ap fault (sym h)

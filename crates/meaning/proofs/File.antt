@@ -23,3 +23,7 @@ pub mod Written
 pub mod LongestFile
 -- The pair and the chain as they are read.
 pub mod Examples
+-- A component's stretch of the file
+pub mod Forward
+pub mod Stretched
+pub mod Ended

@@ -1,4 +1,4 @@
--- The grammar of the instrument file, and what a reader promises.
+-- The grammar of the instrument file, what a reader promises, and where a component stands.
 pub mod Parser
 pub mod Number
 pub mod Grammar

@@ -1,5 +1,5 @@
 -- Answers as numbers: a question's outcome from its number, and that no refusal is mistaken for an answer.
-use mathlib.Core.Path.{_≡_, refl, sym, ap, ap₂, _∙_}
+use mathlib.Core.Path.{_≡_, refl, sym, ap, ap₂, subst, _∙_}
 use mathlib.Core.Bool.{Bool, true, false}
 use mathlib.Core.List.{List}
 use native.Mathlib.Omega.{arith}
@@ -8,12 +8,16 @@ use Prim.Native.Nat.{ℕ, zero, suc, _+_, _-_, _*_, _/_, _^_, _≤_, _<_}
 use Rattle.meaning.specs.Verdict.{Verdict, Stage, holds, fails, marks, merged}
 use Rattle.meaning.specs.File.Parser.{Got, found, fault}
 use Rattle.meaning.specs.File.Stretches.{Stretch, located, startOf, endOf}
+use Rattle.meaning.proofs.File.Ended.{inside, short}
 use Rattle.meaning.specs.Reference.Answers.{Outcome, refused, entries, outcomeNumber}
 use Rattle.cursor.specs.Answers.{number}
 use Rattle.cursor.specs.declared.Refusal.{Refusal}
 use Rattle.answers.specs.Outcomes.{outcomeCount, given, Judgement, bytesOf, componentBytes}
-use Rattle.reader.specs.Outcomes.{faultNumber}
-use Rattle.stretch_query.proofs.Stretches.{inside, short}
+use Rattle.answers.specs.Means.{HasComponent, StretchMeans}
+use Rattle.answers.proofs.Parts.{has-component, own-part}
+use Rattle.parsing.specs.declared.Outcome as told
+use Rattle.parsing.specs.declared.Outcome.the-variants as outcomes
+use Rattle.reader.specs.Outcomes.{faultNumber, Tells}
 use Rattle.entry_queries.specs.declared.Written.{Written}
 use Rattle.entry_queries.specs.declared.Written.the-variants as written
 use Rattle.value_queries.specs.declared.Looked.{Looked}
@@ -114,3 +118,21 @@ pub component-taken : (file : List ℕ) (c r : ℕ) → r ≡ componentCode (loc
 component-taken file c r e =
     let p = component-parts file c in
     ap (λ r. take (sizeIn r) (drop (placeIn r) file)) e ∙ ap₂ (λ n at. take n (drop at file)) (p .size) (p .place)
+
+-- a result below 2 ^ 32 is an answer, and there is one where the file has the component
+pub component-both : (file : List ℕ) (c r : ℕ) (o : told.Outcome) → Tells o (located file c) → r ≡ componentCode (located file c)
+    → (r < 2 ^ 32 → StretchMeans file c (take (sizeIn r) (drop (placeIn r) file))) × (HasComponent file c → r < 2 ^ 32)
+component-both file c r o h e = go o (located file c) refl h
+  where
+    go : (o : told.Outcome) (g : Got Stretch) → located file c ≡ g → Tells o g
+        → (r < 2 ^ 32 → StretchMeans file c (take (sizeIn r) (drop (placeIn r) file))) × (HasComponent file c → r < 2 ^ 32)
+    go outcomes.Accepted (found s at) q t = (
+      λ l. subst (StretchMeans file c) (sym (component-taken file c r e)) (own-part file c (has-component file c s at q)),
+      λ h. omega (arith, e ∙ ap componentCode q, sym (ap endOf q), short file c, inside file c .0, sym (ap startOf q)),
+    )
+    go outcomes.Accepted (fault n) q t = absurd t
+    go (outcomes.Refused cause) (found s at) q t = absurd t
+    go (outcomes.Refused cause) (fault n) q t = (
+      λ l. refusal-large cause (omega (arith, e ∙ ap componentCode q, t, l)),
+      λ h. absurd (own-part file c h .some (ap (bytesOf file) q)),
+    )

@@ -1,6 +1,4 @@
 pub mod Grammar
 pub mod Files
 pub mod Places
-pub mod Forward
-pub mod Stretched
-pub mod Ended
+pub mod Found

@@ -1,5 +1,5 @@
 -- Where a component stands, in the steps of the code.
-use mathlib.Core.Path.{_≡_, refl, sym, ap, _∙_}
+use mathlib.Core.Path.{_≡_, refl, sym, ap, subst, _∙_}
 use mathlib.Core.List.{List}
 use lib.ListN.{length}
 use lib.Dec.{ltb}
@@ -24,13 +24,20 @@ use Rattle.parsing.proofs.Parsers.{on-each}
 use Rattle.tables.specs.Stages.{addComponent, opened, readFirst}
 use Rattle.tables.proofs.Grammar.{counts-then, times-components}
 use Rattle.reader.specs.declared.Located.{Located}
-use Rattle.reader.specs.Outcomes.{outcomeNumber, faultNumber}
+use Rattle.reader.specs.Outcomes.{outcomeNumber, faultNumber, Tells}
 use Rattle.reader.specs.Answers.{Locates, refusedStretch}
+
+-- an outcome has the number of what it tells
+pub told-number : {A : Type 0} (o : Outcome) (g : Got A) → Tells o g → outcomeNumber o ≡ faultNumber g
+told-number Accepted (found a at) h = refl
+told-number Accepted (fault r) h = absurd h
+told-number (Refused cause) (found a at) h = absurd h
+told-number (Refused cause) (fault r) h = h
 
 pub locates-refused : (l : Located) (r : Refusal) (g : Got Stretch) → l ≡ refusedStretch r → g ≡ fault (number r) → Locates l g
 locates-refused l r g e h =
     record {
-      outcome-is = ap (λ (l : Located). outcomeNumber (l .outcome)) e ∙ sym (ap faultNumber h);
+      told = subst (λ (l : Located). Tells (l .outcome) g) (sym e) (subst (Tells (Refused r)) (sym h) refl);
       start-is = ap (λ (l : Located). l .start) e ∙ sym (ap startOf h);
       end-is = ap (λ (l : Located). l .end) e ∙ sym (ap endOf h);
     }

@@ -1,11 +1,14 @@
--- What the reader's answers say in document 01's words: the number of the outcome, and the instrument of what was found.
+-- What the reader's answers say in document 01's words: the number of the outcome, the instrument of what was found, and what is promised of
+-- it.
 use mathlib.Core.Path.{_≡_}
+use mathlib.Core.List.{List}
 use Prim.Native.Nat.{ℕ}
 use Rattle.meaning.specs.File.Parser.{Got, found, fault}
-use Rattle.meaning.specs.File.Grammar.{Contents}
+use Rattle.meaning.specs.File.Grammar.{Contents, readFile}
 use Rattle.cursor.specs.Answers.{number}
 use Rattle.instrument.specs.declared.Instrument.{Instrument}
 use Rattle.instrument.specs.Layout.{layout, nothing}
+use Rattle.instrument.specs.Described.{Describes}
 use Rattle.parsing.specs.declared.Outcome.{Outcome}
 use Rattle.parsing.specs.declared.Outcome.the-variants.{Accepted, Refused}
 
@@ -23,9 +26,16 @@ abbrev pub layoutOf : Got Contents → Instrument
 layoutOf (found k at) = layout k
 layoutOf (fault r) = layout nothing
 
--- an outcome tells what was found: accepted where it is contents, refused by the number of the fault where it is none
-abbrev pub Tells : Outcome → Got Contents → Type 0
-Tells Accepted (found k at) = Unit {0}
+-- an outcome tells whether something was found: accepted where it was, refused by the number of the fault where it was not
+abbrev pub Tells : {A : Type 0} → Outcome → Got A → Type 0
+Tells Accepted (found a at) = Unit {0}
 Tells Accepted (fault r) = ⊥
-Tells (Refused cause) (found k at) = ⊥
+Tells (Refused cause) (found a at) = ⊥
 Tells (Refused cause) (fault r) = number cause ≡ r
+
+-- the instrument of an accepted file: it holds the file's contents, whose tables are well formed and whose nodes have earlier operands
+pub record Found (file : List ℕ) (t : Instrument) : Type 0 where
+  pub contents : Contents
+  pub end : ℕ
+  pub read : readFile file ≡ found contents end
+  pub describes : Describes t contents

@@ -2,8 +2,11 @@
 use cursor::Refusal;
 use reader::Outcome;
 ghost use mathlib.Core.Path.{_≡_};
+ghost use mathlib.Core.Logic.{_≢_};
+ghost use mathlib.Core.List.{[]};
 ghost use Rattle.meaning.specs.File.Stretches.{located};
 ghost use Rattle.answers.specs.Outcomes.{componentBytes};
+ghost use Rattle.answers.specs.Means.{HasComponent, StretchMeans};
 ghost use Rattle.reader.specs.Outcomes.{faultNumber};
 ghost use Rattle.stretch_query.specs.Components.{askedNumber};
 
@@ -17,6 +20,8 @@ pub enum Asked {
 // refuses the question.
 pub fn component_bytes(file: &[u8], component: u32) -> &[u8]
     ensures answer { λ r. ⌜ now r ≡ componentBytes (now (file .entry)) component ⌝ }
+    ensures meaning { λ r. ⌜ (now r ≢ [] → StretchMeans (now (file .entry)) component (now r)) ⌝ }
+    ensures answered { λ r. ⌜ (HasComponent (now (file .entry)) component → now r ≢ []) ⌝ }
 {
     let place = reader::locate(file, component);
     let start = place.start;

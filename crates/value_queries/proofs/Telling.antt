@@ -19,7 +19,7 @@ use Rattle.cursor.specs.Answers.{number}
 use Rattle.cursor.specs.declared.Refusal.{Refusal}
 use Rattle.parsing.specs.declared.Outcome as told
 use Rattle.parsing.specs.declared.Outcome.the-variants as outcomes
-use Rattle.reader.specs.Outcomes.{Tells}
+use Rattle.reader.specs.Outcomes.{Tells, Found}
 use Rattle.instrument.specs.declared.Instrument as code
 use Rattle.instrument.specs.Described.{Describes}
 use Rattle.instrument.proofs.Bounds.{count-bounds}
@@ -32,7 +32,7 @@ use Rattle.verdict.specs.declared.Verdict.the-variants as judge
 use Rattle.answers.specs.Outcomes.{Reply, given, denied, replyAfter, asksState, lookedUp, lookupOf, Judgement, judgement, verdictOf}
 use Rattle.answers.specs.Means.{Holds, LookupMeans, VerdictMeans}
 use Rattle.answers.proofs.Starts.{lookup-means, verdict-means}
-use Rattle.entry_queries.proofs.Answering.{Found, refused-fault}
+use Rattle.entry_queries.proofs.Answering.{refused-fault}
 
 -- a refused file, and an accepted one
 module _ {X : Type 0} (f : Instrument → Reply X) where

@@ -6,7 +6,7 @@ use Rattle.meaning.specs.Reference.Answers.{fitting, fullCount, fullWords}
 use Rattle.answers.specs.Outcomes.{fullOutcome, within}
 use Rattle.answers.specs.Means.{FullMeans}
 use Rattle.answers.proofs.Means.{full-means}
-use Rattle.entry_queries.proofs.Answering.{found-by, refused-both, file-answered, within-entries, means}
+use Rattle.entry_queries.proofs.Answering.{refused-both, file-answered, within-entries, means}
 use Rattle.entry_queries.proofs.full_words.Statement.{statement}
 use Rattle.entry_queries.proofs.full_words.Tie as tie
 
@@ -22,8 +22,7 @@ enum-told c = search needs
 write-full-requires : tie.Need-write-full-requires
 write-full-requires c κs =
     let m = c .before .before .before .before in
-    let h = found-by (m .before .before .before .args .file .now) (m .read .result .instrument) (m .read .result .outcome) (c .before .before .enum-told .given .1)
-    (m .read .ensures .0) (m .read .ensures .1) in
+    let h = m .read .ensures .1 .1 (c .before .before .enum-told .given .1) in
     (h .contents, h .describes)
 
 returns : tie.Need-returns
@@ -44,8 +43,7 @@ returns-2 c =
     let m = w .before .before .before .before .before in
     let a = m .before .before .before .args in
     let old = a .out .now in
-    let h = found-by (a .file .now) (m .read .result .instrument) (m .read .result .outcome) (w .before .before .before .enum-told .given .1)
-    (m .read .ensures .0) (m .read .ensures .1) in
+    let h = m .read .ensures .1 .1 (w .before .before .before .enum-told .given .1) in
     let I = instrumentOf (h .contents) in
     let answered = w .write-full .ensures (h .contents) (h .describes) in (
       file-answered (λ I. within (fullCount I) 11 (fitting (length old) (fullWords I))) h answered,

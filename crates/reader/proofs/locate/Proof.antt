@@ -1,9 +1,9 @@
-use mathlib.Core.Path.{sym, ap, _∙_}
+use mathlib.Core.Path.{sym, ap, subst, _∙_}
 use native.Mathlib.Omega.{arith}
 use Rattle.meaning.specs.File.Grammar.{readFile}
 use Rattle.meaning.specs.File.Stretches.{startOf, endOf}
 use Rattle.parsing.proofs.Steps.{refused-was, accepted-was}
-use Rattle.reader.specs.Outcomes.{faultNumber}
+use Rattle.reader.specs.Outcomes.{Tells}
 use Rattle.reader.proofs.Places.{locates-refused, located-fault, located-beyond, located-within}
 use borrow.Author.Needs.{needs}
 use Rattle.reader.proofs.locate.Statement.{statement}
@@ -31,7 +31,7 @@ returns c =
     let enum-told′ = c .before .before .before .before .enum-told in
     let w = accepted-was (whole′ .result) (readFile (args′ .file .now)) (enum-told′ .given .1) (whole′ .ensures .0) in
     let l = locates-refused _ _ _ (c .nowhere2 .ensures) (located-beyond _ _ _ _ _ (w .is) (w .same) (c .before .if1 .taken)) in
-    (l .outcome-is, (l .start-is, l .end-is))
+    (l .told, (l .start-is, l .end-is))
 
 stretch-requires : tie.Need-stretch-requires
 stretch-requires c κs =
@@ -45,7 +45,7 @@ returns-2 c =
     let outcome′ = c .before .before .outcome in
     let e = refused-was (whole′ .result) _ (readFile (args′ .file .now)) (outcome′ .given .1) (whole′ .ensures .0) in
     let l = locates-refused _ _ _ (c .nowhere .ensures) (located-fault _ _ _ e) in
-    (l .outcome-is, (l .start-is, l .end-is))
+    (l .told, (l .start-is, l .end-is))
 
 returns-3 : tie.Need-returns-3
 returns-3 c =
@@ -54,8 +54,9 @@ returns-3 c =
     let enum-told′ = c .before .before .before .before .enum-told in
     let w = accepted-was (whole′ .result) (readFile (args′ .file .now)) (enum-told′ .given .1) (whole′ .ensures .0) in
     let e = located-within _ _ _ _ _ (w .is) (w .same) (c .before .if1 .left) in
+    let r = c .stretch .result in
     let l = c .stretch .ensures in
-    (l .outcome-is ∙ sym (ap faultNumber e), (l .start-is ∙ sym (ap startOf e), l .end-is ∙ sym (ap endOf e)))
+    (subst (Tells (r .outcome)) (sym e) (l .told), (l .start-is ∙ sym (ap startOf e), l .end-is ∙ sym (ap endOf e)))
 
 pub locate-spec : {M : Type 1} → statement M
 locate-spec =

@@ -1,10 +1,11 @@
-use mathlib.Core.Path.{sym, ap}
+use mathlib.Core.Path.{sym, ap, subst}
 use native.Mathlib.Omega.{arith}
 use Rattle.meaning.specs.File.Parser.{on}
 use Rattle.meaning.specs.File.Stretches.{startOf, endOf}
+use Rattle.parsing.specs.declared.Outcome.the-variants.{Accepted}
 use Rattle.parsing.proofs.Steps.{refused-was, accepted-was}
 use Rattle.tables.specs.Stages.{addComponent, readFirst}
-use Rattle.reader.specs.Outcomes.{faultNumber}
+use Rattle.reader.specs.Outcomes.{Tells}
 use Rattle.reader.proofs.Places.{locates-refused, stretch-fault, stretch-found}
 use borrow.Author.Needs.{needs}
 use Rattle.reader.proofs.stretch.Statement.{statement}
@@ -50,7 +51,7 @@ returns-2 c =
     let w =
     accepted-was (component′ .result) (on g (λ k at. addComponent k file at)) (c .enum-told .given .1) (component′ .ensures .0 .on-from g (first′ .ensures .0)) in
     let e = stretch-found file (args′ .c) (first′ .result) (first′ .ensures .0) _ _ (w .is) in
-    record { outcome-is = sym (ap faultNumber e); start-is = sym (ap startOf e); end-is = sym (ap endOf e) }
+    record { told = subst (Tells Accepted) (sym e) tt; start-is = sym (ap startOf e); end-is = sym (ap endOf e) }
 
 pub stretch-spec : {M : Type 1} → statement M
 stretch-spec =

@@ -3,7 +3,8 @@ use native.Mathlib.Omega.{arith}
 use Prim.Native.Nat.{_-_}
 use borrow.Author.Needs.{needs}
 use lib.ListN.{take, drop}
-use Rattle.stretch_query.proofs.Stretches.{inside}
+use Rattle.meaning.proofs.File.Ended.{inside}
+use Rattle.answers.proofs.Parts.{part-means, part-some}
 use Rattle.stretch_query.proofs.component_bytes.Statement.{statement}
 use Rattle.stretch_query.proofs.component_bytes.Tie as tie
 
@@ -27,7 +28,9 @@ part-result-end c =
 
 returns : tie.Need-returns
 returns c =
-    ap₂ (λ a e. take (e - a) (drop a (c .before .before .before .args .file .now))) (c .before .locate .ensures .1 .0) (c .before .locate .ensures .1 .1)
+    let s = c .before .before .before .args in
+    let e = ap₂ (λ a e. take (e - a) (drop a (s .file .now))) (c .before .locate .ensures .1 .0) (c .before .locate .ensures .1 .1) in
+    (e, (part-means (s .file .now) (s .component) _ e, part-some (s .file .now) (s .component) _ e))
 
 pub component-bytes-spec : {M : Type 1} → statement M
 component-bytes-spec =

@@ -1,6 +1,8 @@
 use mathlib.Core.Path.{ap, sym, _∙_}
 use borrow.Author.Needs.{needs}
+use Rattle.meaning.specs.File.Stretches.{located}
 use Rattle.reader.specs.Outcomes.{outcomeNumber}
+use Rattle.reader.proofs.Places.{told-number}
 use Rattle.stretch_query.proofs.component_refusal.Statement.{statement}
 use Rattle.stretch_query.proofs.component_refusal.Tie as tie
 
@@ -14,10 +16,18 @@ enum-known-outcome : tie.Need-enum-known-outcome
 enum-known-outcome c = search needs
 
 returns : tie.Need-returns
-returns c = sym (ap outcomeNumber (c .enum-told .given .1)) ∙ c .before .before .locate .ensures .0
+returns c =
+    let a = c .before .before .before .before .args in
+    let l = c .before .before .locate in
+    sym (ap outcomeNumber (c .enum-told .given .1))
+    ∙ told-number (l .result .outcome) (located (a .file .now) (a .component)) (l .ensures .0)
 
 returns-2 : tie.Need-returns-2
-returns-2 c = sym (ap outcomeNumber (c .before .outcome .given .1)) ∙ c .before .before .before .locate .ensures .0
+returns-2 c =
+    let a = c .before .before .before .before .before .args in
+    let l = c .before .before .before .locate in
+    sym (ap outcomeNumber (c .before .outcome .given .1))
+    ∙ told-number (l .result .outcome) (located (a .file .now) (a .component)) (l .ensures .0)
 
 pub component-refusal-spec : {M : Type 1} → statement M
 component-refusal-spec =

@@ -1,7 +1,6 @@
 use mathlib.Core.Path.{sym, _∙_}
 use mathlib.Core.List.{[], _∷_}
 use Rattle.answers.specs.Outcomes.{lookupOf, lookupReply}
-use Rattle.entry_queries.proofs.Answering.{found-by}
 use Rattle.value_queries.proofs.Telling.{reply-refused, reply-found, denied-given, lookup-holds}
 use borrow.Author.Needs.{needs}
 use Rattle.value_queries.proofs.lookup.Statement.{statement}
@@ -19,8 +18,7 @@ enum-told c = search needs
 look-up-asked-requires : tie.Need-look-up-asked-requires
 look-up-asked-requires c κs =
     let m = c .before .before .before in
-    let h = found-by (m .before .before .args .file .now) (m .read .result .instrument) (m .read .result .outcome) (c .before .enum-told .given .1)
-    (m .read .ensures .0) (m .read .ensures .1) in
+    let h = m .read .ensures .1 .1 (c .before .enum-told .given .1) in
     (h .contents, h .describes)
 
 returns : tie.Need-returns
@@ -37,8 +35,7 @@ unfolding lookupReply
 returns-2 c =
     let m = c .before .before .before .before in
     let a = m .before .before .args in
-    let h = found-by (a .file .now) (m .read .result .instrument) (m .read .result .outcome) (c .before .before .enum-told .given .1)
-    (m .read .ensures .0) (m .read .ensures .1) in
+    let h = m .read .ensures .1 .1 (c .before .before .enum-told .given .1) in
     let e = c .look-up-asked .ensures (h .contents) (h .describes) in
     (reply-found (λ I. lookupOf I (a .s0 ∷ a .s1 ∷ a .s2 ∷ a .s3 ∷ [])) h e, λ b z. lookup-holds h (a .s0 ∷ a .s1 ∷ a .s2 ∷ a .s3 ∷ []) b (sym e ∙ z))
 

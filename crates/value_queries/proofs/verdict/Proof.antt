@@ -1,6 +1,5 @@
 use mathlib.Core.Path.{sym, _∙_}
 use Rattle.answers.specs.Outcomes.{judgement, verdictOf, verdictReply}
-use Rattle.entry_queries.proofs.Answering.{found-by}
 use Rattle.value_queries.proofs.Telling.{reply-refused, reply-found, denied-given, verdict-holds}
 use borrow.Author.Needs.{needs}
 use Rattle.value_queries.proofs.verdict.Statement.{statement}
@@ -18,8 +17,7 @@ enum-told c = search needs
 judge-requires : tie.Need-judge-requires
 judge-requires c κs =
     let m = c .before .before .before in
-    let h = found-by (m .before .before .args .file .now) (m .read .result .instrument) (m .read .result .outcome) (c .before .enum-told .given .1)
-    (m .read .ensures .0) (m .read .ensures .1) in
+    let h = m .read .ensures .1 .1 (c .before .enum-told .given .1) in
     (h .contents, h .describes)
 
 returns : tie.Need-returns
@@ -36,8 +34,7 @@ unfolding verdictReply
 returns-2 c =
     let m = c .before .before .before .before in
     let a = m .before .before .args in
-    let h = found-by (a .file .now) (m .read .result .instrument) (m .read .result .outcome) (c .before .before .enum-told .given .1)
-    (m .read .ensures .0) (m .read .ensures .1) in
+    let h = m .read .ensures .1 .1 (c .before .before .enum-told .given .1) in
     let e = c .judge .ensures (h .contents) (h .describes) in
     (reply-found (λ I. judgement (verdictOf I)) h e, λ b z. verdict-holds h b (sym e ∙ z))
 

@@ -26,7 +26,7 @@ hexadecimal-line-requires c κs =
     let b = c .before in
     let e = b .before in
     let s = e .before .before .before .before in
-    omega (arith, room c, stretch-short (s .args .file .now) (s .args .c) (fine e) (b .component-bytes .result .now) (b .component-bytes .ensures))
+    omega (arith, room c, stretch-short (s .args .file .now) (s .args .c) (fine e) (b .component-bytes .result .now) (b .component-bytes .ensures .0))
 
 returns : tie.Need-returns
 returns c =
@@ -40,7 +40,7 @@ returns-2 c =
     let b = c .before .before in
     let e = b .before in
     let a = e .before .before .before .before .args in
-    made-same (ap hexadecimalLine (b .component-bytes .ensures) ∙ sym (stretch-given (a .file .now) (a .c) (fine e))) (c .hexadecimal-line .ensures)
+    made-same (ap hexadecimalLine (b .component-bytes .ensures .0) ∙ sym (stretch-given (a .file .now) (a .c) (fine e))) (c .hexadecimal-line .ensures)
 
 pub stretch-spec : {M : Type 1} → statement M
 stretch-spec =

@@ -3,9 +3,10 @@ use native.Mathlib.Omega.{arith}
 use Prim.Native.Nat.{_+_, _-_, _*_, _^_}
 use borrow.Author.Needs.{needs}
 use Rattle.meaning.specs.File.Stretches.{located}
+use Rattle.meaning.proofs.File.Ended.{inside, short}
 use Rattle.reader.specs.Outcomes.{outcomeNumber}
-use Rattle.stretch_query.proofs.Stretches.{inside, short}
-use Rattle.pinthar.proofs.Codes.{code-answered, code-refused, component-taken}
+use Rattle.reader.proofs.Places.{told-number}
+use Rattle.pinthar.proofs.Codes.{code-answered, code-refused, component-taken, component-both}
 use Rattle.pinthar.proofs.stretch.pinthar_component.Statement.{statement}
 use Rattle.pinthar.proofs.stretch.pinthar_component.Tie as tie
 
@@ -42,20 +43,21 @@ of-refusal-requires c κs = search needs
 returns : tie.Need-returns
 returns c =
     let a = c .before .before .before .before .before .args in
-    let l = c .before .before .before .locate .ensures in
-    let told = sym (ap outcomeNumber (c .before .enum-told .given .1)) ∙ l .0 in
-    let e =
-    ap₂ (λ s e. s * 2 ^ 16 + (e - s)) (l .1 .0) (l .1 .1) ∙ code-answered (located (a .file .now) (a .component)) told in
-    (e, component-taken (a .file .now) (a .component) _ e)
+    let l = c .before .before .before .locate in
+    let g = located (a .file .now) (a .component) in
+    let told = sym (ap outcomeNumber (c .before .enum-told .given .1)) ∙ told-number (l .result .outcome) g (l .ensures .0) in
+    let e = ap₂ (λ s e. s * 2 ^ 16 + (e - s)) (l .ensures .1 .0) (l .ensures .1 .1) ∙ code-answered g told in
+    (e, (component-taken (a .file .now) (a .component) _ e, component-both (a .file .now) (a .component) _ (l .result .outcome) (l .ensures .0) e))
 
 returns-2 : tie.Need-returns-2
 returns-2 c =
     let a = c .before .before .before .before .before .before .args in
-    let l = c .before .before .before .before .locate .ensures in
+    let l = c .before .before .before .before .locate in
     let o = c .before .before .outcome in
-    let told = sym (ap outcomeNumber (o .given .1)) ∙ l .0 in
-    let e = c .of-refusal .ensures ∙ code-refused (located (a .file .now) (a .component)) (o .given .0 .0) told in
-    (e, component-taken (a .file .now) (a .component) _ e)
+    let g = located (a .file .now) (a .component) in
+    let told = sym (ap outcomeNumber (o .given .1)) ∙ told-number (l .result .outcome) g (l .ensures .0) in
+    let e = c .of-refusal .ensures ∙ code-refused g (o .given .0 .0) told in
+    (e, (component-taken (a .file .now) (a .component) _ e, component-both (a .file .now) (a .component) _ (l .result .outcome) (l .ensures .0) e))
 
 pub pinthar-component-spec : {M : Type 1} → statement M
 pinthar-component-spec =

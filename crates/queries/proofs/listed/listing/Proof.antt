@@ -4,7 +4,7 @@ use Rattle.meaning.specs.File.Grammar.{readFile}
 use Rattle.reader.specs.Outcomes.{Tells}
 use Rattle.answers.specs.Outcomes.{judgement, verdictOf}
 use Rattle.answers.specs.Listing.{listed, listingOutcome}
-use Rattle.entry_queries.proofs.Answering.{found-by, file-refused, file-answered}
+use Rattle.entry_queries.proofs.Answering.{file-refused, file-answered}
 use borrow.Author.Needs.{needs}
 use Rattle.queries.proofs.listed.listing.Statement.{statement}
 use Rattle.queries.proofs.listed.listing.Tie as tie
@@ -21,8 +21,7 @@ enum-told c = search needs
 write-listing-requires : tie.Need-write-listing-requires
 write-listing-requires c κs =
     let m = c .before .before .before .before in
-    let h = found-by (m .before .before .before .args .file .now) (m .read .result .instrument) (m .read .result .outcome) (c .before .before .enum-told .given .1)
-    (m .read .ensures .0) (m .read .ensures .1) in
+    let h = m .read .ensures .1 .1 (c .before .before .enum-told .given .1) in
     (h .contents, h .describes)
 
 returns : tie.Need-returns
@@ -43,8 +42,7 @@ returns-2 c =
     let w = c .before .before in
     let m = w .before .before .before .before .before in
     let a = m .before .before .before .args in
-    let h = found-by (a .file .now) (m .read .result .instrument) (m .read .result .outcome) (w .before .before .before .enum-told .given .1)
-    (m .read .ensures .0) (m .read .ensures .1) in
+    let h = m .read .ensures .1 .1 (w .before .before .before .enum-told .given .1) in
     file-answered (λ I. listed I (length (a .out .now)) (judgement (verdictOf I))) h (w .write-listing .ensures (h .contents) (h .describes))
 
 pub listing-spec : {M : Type 1} → statement M

@@ -8,14 +8,14 @@ use lib.ListN.{length, getD, take}
 use borrow.Author.Tests.{lt-ltb}
 use native.Mathlib.Omega.{arith}
 use Prim.Native.Nat.{ℕ, zero, suc, _≤_, _<_}
 use Rattle.meaning.specs.File.Parser.{Got, found, fault, on, listOf, repeat}
 use Rattle.meaning.specs.File.Number.{choose}
 use Rattle.meaning.specs.File.Grammar.{Component, Contents, limits, between, component, components, nodes, start, finished, withAll, drivenBy}
 use Rattle.meaning.specs.File.Grammar.{whole, readFile}
 use Rattle.meaning.specs.File.Stretches.{Stretch, stretchOf, located}
 use Rattle.meaning.proofs.File.Lists.{Says, found-says, on-says, list-none, list-more}
 use Rattle.meaning.proofs.File.Progress.{length-list}
-use Rattle.reader.proofs.Forward.{Past, between-past, list-onward, component-past}
+use Rattle.meaning.proofs.File.Forward.{Past, between-past, list-onward, component-past}
 
 -- the stretch lies in the file and is not empty
 pub record Lies (file : List ℕ) (s : Stretch) : Type 0 where
@@ -56,7 +56,7 @@ record Begun (file : List ℕ) (k : Contents) : Type 0 where
   signals-is : between limits 0 (limits .signals) 3 file after-many ≡ found (k .signals) after-signals
   tables-are : components limits (k .signals) many file after-signals ≡ found (k .components) after-tables
 
-pub says-on : {A B : Type 0} (Q : B → ℕ → Type 0) (g : Got A) (f : A → ℕ → Got B) → ((a : A) (n : ℕ) → g ≡ found a n → Says Q (f a n))
+says-on : {A B : Type 0} (Q : B → ℕ → Type 0) (g : Got A) (f : A → ℕ → Got B) → ((a : A) (n : ℕ) → g ≡ found a n → Says Q (f a n))
     → Says Q (on g f)
 says-on Q (found a n) f h = h a n refl
 says-on Q (fault r) f h = tt
