@@ -27,7 +27,7 @@ returns c =
     let outcome′ = c .before .before .outcome in
     let e = refused-was (whole′ .result) _ (readFile (args′ .file .now)) (outcome′ .given .1) (whole′ .ensures .0) in
     let h = subst (Tells (Refused (outcome′ .given .0 .0))) (sym e) refl in
-    let l = c .empty .ensures ∙ sym (ap layoutOf e) in
+    let l = c .empty .ensures .0 ∙ sym (ap layoutOf e) in
     (h, (l, accepted-found (args′ .file .now) _ _ h l))
 
 returns-2 : tie.Need-returns-2

@@ -7,7 +7,7 @@ empty-requires : tie.Need-empty-requires
 empty-requires c κs = search needs
 
 returns : tie.Need-returns
-returns c = rw (c .empty .ensures) refl
+returns c = rw (c .empty .ensures .0) refl
 
 pub refused-spec : {M : Type 1} → statement M
 refused-spec =
