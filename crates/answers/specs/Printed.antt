@@ -1,6 +1,6 @@
 -- The text that is printed for a question about the bytes of a file: the lines of its answer, the one line of its refusal, or how to ask where the
 -- question is unknown. Each line ends with byte 10.
-use mathlib.Core.List.{List, [], _∷_}
+use mathlib.Core.List.{List, [], _∷_, _++_}
 use lib.Dec.{leb}
 use lib.ListN.{length}
 use Prim.Native.Nat.{ℕ}
@@ -11,9 +11,10 @@ use Rattle.meaning.specs.File.Grammar.{Contents, instrumentOf, readFile}
 use Rattle.meaning.specs.File.Stretches.{Stretch, located}
 use Rattle.meaning.specs.Reference.Answers.{fullCount, fullWords, markWords, mergedSize, mergedWords}
 use Rattle.answers.specs.Outcomes.{Reply, given, denied, Judgement, judgement, verdictOf, mostStates, lookupReply, verdictReply, componentBytes}
-use Rattle.answers.specs.Listing.{refusalLine, classLines, listingText}
+use Rattle.answers.specs.Listing.{lineEnd, refusalLine, classLines, listingText}
 use Rattle.answers.specs.Lines.{wordsLine, markLines, hexadecimalLine, lookupLine, judgementLine}
 use Rattle.answers.specs.Questions.{Question, full, marks, classes, merged, listing, verdict, stretch, lookup, unknown}
+use Rattle.answers.specs.Questions.{wordFull, wordMarks, wordClasses, wordMerged, wordListing, wordLookup, wordVerdict, wordStretch}
 
 -- the text for the instrument of an accepted file, else the line of the file's first fault
 abbrev pub textAfter : Got Contents → (Instrument → List ℕ) → List ℕ
@@ -34,10 +35,27 @@ abbrev pub stretchText : Got Stretch → List ℕ → List ℕ
 stretchText (found s end) bytes = hexadecimalLine bytes
 stretchText (fault r) bytes = refusalLine r
 
+-- "usage: query ", " | ", " A B C D", " C", " < FILE"
+abbrev pub usageLabel : List ℕ
+usageLabel = 117 ∷ 115 ∷ 97 ∷ 103 ∷ 101 ∷ 58 ∷ 32 ∷ 113 ∷ 117 ∷ 101 ∷ 114 ∷ 121 ∷ 32 ∷ []
+
+abbrev pub bar : List ℕ
+bar = 32 ∷ 124 ∷ 32 ∷ []
+
+abbrev pub stateLabel : List ℕ
+stateLabel = 32 ∷ 65 ∷ 32 ∷ 66 ∷ 32 ∷ 67 ∷ 32 ∷ 68 ∷ []
+
+abbrev pub numberLabel : List ℕ
+numberLabel = 32 ∷ 67 ∷ []
+
+abbrev pub fileLabel : List ℕ
+fileLabel = 32 ∷ 60 ∷ 32 ∷ 70 ∷ 73 ∷ 76 ∷ 69 ∷ []
+
 -- "usage: query full | marks | classes | merged | listing | lookup A B C D | verdict | stretch C < FILE"
 unfoldable pub usageLine : List ℕ
 usageLine =
-    117 ∷ 115 ∷ 97 ∷ 103 ∷ 101 ∷ 58 ∷ 32 ∷ 113 ∷ 117 ∷ 101 ∷ 114 ∷ 121 ∷ 32 ∷ 102 ∷ 117 ∷ 108 ∷ 108 ∷ 32 ∷ 124 ∷ 32 ∷ 109 ∷ 97 ∷ 114 ∷ 107 ∷ 115 ∷ 32 ∷ 124 ∷ 32 ∷ 99 ∷ 108 ∷ 97 ∷ 115 ∷ 115 ∷ 101 ∷ 115 ∷ 32 ∷ 124 ∷ 32 ∷ 109 ∷ 101 ∷ 114 ∷ 103 ∷ 101 ∷ 100 ∷ 32 ∷ 124 ∷ 32 ∷ 108 ∷ 105 ∷ 115 ∷ 116 ∷ 105 ∷ 110 ∷ 103 ∷ 32 ∷ 124 ∷ 32 ∷ 108 ∷ 111 ∷ 111 ∷ 107 ∷ 117 ∷ 112 ∷ 32 ∷ 65 ∷ 32 ∷ 66 ∷ 32 ∷ 67 ∷ 32 ∷ 68 ∷ 32 ∷ 124 ∷ 32 ∷ 118 ∷ 101 ∷ 114 ∷ 100 ∷ 105 ∷ 99 ∷ 116 ∷ 32 ∷ 124 ∷ 32 ∷ 115 ∷ 116 ∷ 114 ∷ 101 ∷ 116 ∷ 99 ∷ 104 ∷ 32 ∷ 67 ∷ 32 ∷ 60 ∷ 32 ∷ 70 ∷ 73 ∷ 76 ∷ 69 ∷ 10 ∷ []
+    usageLabel ++ (wordFull ++ (bar ++ (wordMarks ++ (bar ++ (wordClasses ++ (bar ++ (wordMerged ++ (bar ++ (wordListing
+    ++ (bar ++ (wordLookup ++ (stateLabel ++ (bar ++ (wordVerdict ++ (bar ++ (wordStretch ++ (numberLabel ++ (fileLabel ++ lineEnd))))))))))))))))))
 
 -- the text for a question about a file
 unfoldable pub printed : Question → List ℕ → List ℕ

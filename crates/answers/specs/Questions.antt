@@ -58,47 +58,47 @@ sameBytes (a ∷ l) [] = false
 sameBytes (a ∷ l) (b ∷ m) = eqb a b && sameBytes l m
 
 -- "full", "marks", "classes", "merged", "listing", "verdict", "stretch", "lookup"
-abbrev pub fullWord : List ℕ
-fullWord = 102 ∷ 117 ∷ 108 ∷ 108 ∷ []
+abbrev pub wordFull : List ℕ
+wordFull = 102 ∷ 117 ∷ 108 ∷ 108 ∷ []
 
-abbrev pub marksWord : List ℕ
-marksWord = 109 ∷ 97 ∷ 114 ∷ 107 ∷ 115 ∷ []
+abbrev pub wordMarks : List ℕ
+wordMarks = 109 ∷ 97 ∷ 114 ∷ 107 ∷ 115 ∷ []
 
-abbrev pub classesWord : List ℕ
-classesWord = 99 ∷ 108 ∷ 97 ∷ 115 ∷ 115 ∷ 101 ∷ 115 ∷ []
+abbrev pub wordClasses : List ℕ
+wordClasses = 99 ∷ 108 ∷ 97 ∷ 115 ∷ 115 ∷ 101 ∷ 115 ∷ []
 
-abbrev pub mergedWord : List ℕ
-mergedWord = 109 ∷ 101 ∷ 114 ∷ 103 ∷ 101 ∷ 100 ∷ []
+abbrev pub wordMerged : List ℕ
+wordMerged = 109 ∷ 101 ∷ 114 ∷ 103 ∷ 101 ∷ 100 ∷ []
 
-abbrev pub listingWord : List ℕ
-listingWord = 108 ∷ 105 ∷ 115 ∷ 116 ∷ 105 ∷ 110 ∷ 103 ∷ []
+abbrev pub wordListing : List ℕ
+wordListing = 108 ∷ 105 ∷ 115 ∷ 116 ∷ 105 ∷ 110 ∷ 103 ∷ []
 
-abbrev pub verdictWord : List ℕ
-verdictWord = 118 ∷ 101 ∷ 114 ∷ 100 ∷ 105 ∷ 99 ∷ 116 ∷ []
+abbrev pub wordVerdict : List ℕ
+wordVerdict = 118 ∷ 101 ∷ 114 ∷ 100 ∷ 105 ∷ 99 ∷ 116 ∷ []
 
-abbrev pub stretchWord : List ℕ
-stretchWord = 115 ∷ 116 ∷ 114 ∷ 101 ∷ 116 ∷ 99 ∷ 104 ∷ []
+abbrev pub wordStretch : List ℕ
+wordStretch = 115 ∷ 116 ∷ 114 ∷ 101 ∷ 116 ∷ 99 ∷ 104 ∷ []
 
-abbrev pub lookupWord : List ℕ
-lookupWord = 108 ∷ 111 ∷ 111 ∷ 107 ∷ 117 ∷ 112 ∷ []
+abbrev pub wordLookup : List ℕ
+wordLookup = 108 ∷ 111 ∷ 111 ∷ 107 ∷ 117 ∷ 112 ∷ []
 
 -- a word alone
 abbrev pub plain : List ℕ → Question
 plain w =
-    cond (sameBytes w fullWord) full
-    (cond (sameBytes w marksWord) marks
-    (cond (sameBytes w classesWord) classes
-    (cond (sameBytes w mergedWord) merged
-    (cond (sameBytes w listingWord) listing
-    (cond (sameBytes w verdictWord) verdict unknown)))))
+    cond (sameBytes w wordFull) full
+    (cond (sameBytes w wordMarks) marks
+    (cond (sameBytes w wordClasses) classes
+    (cond (sameBytes w wordMerged) merged
+    (cond (sameBytes w wordListing) listing
+    (cond (sameBytes w wordVerdict) verdict unknown)))))
 
 -- a word and numbers: a component, or one state of each of four components
 abbrev pub about : List ℕ → List ℕ → Question
 about w [] = plain w
-about w (c ∷ []) = cond (sameBytes w stretchWord) (stretch c) unknown
+about w (c ∷ []) = cond (sameBytes w wordStretch) (stretch c) unknown
 about w (a ∷ b ∷ []) = unknown
 about w (a ∷ b ∷ c ∷ []) = unknown
-about w (s0 ∷ s1 ∷ s2 ∷ s3 ∷ []) = cond (sameBytes w lookupWord) (lookup s0 s1 s2 s3) unknown
+about w (s0 ∷ s1 ∷ s2 ∷ s3 ∷ []) = cond (sameBytes w wordLookup) (lookup s0 s1 s2 s3) unknown
 about w (s0 ∷ s1 ∷ s2 ∷ s3 ∷ s4 ∷ more) = unknown
 
 abbrev pub askedBy : List (List ℕ) → Question

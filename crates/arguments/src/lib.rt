@@ -3,7 +3,6 @@
 mod question; // question.rt: the question of a line
 mod line; // line.rt: the words of a line, and their numbers
 
-pub use line::Numbers;
 pub use question::Question;
 pub use question::question_of;
 ghost use mathlib.Core.Path.{_≡_};

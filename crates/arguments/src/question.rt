@@ -6,7 +6,7 @@ ghost use mathlib.Core.Path.{_≡_};
 ghost use mathlib.Core.Bool.{cond};
 ghost use mathlib.Core.List.{List, _∷_};
 ghost use Prim.Native.Nat.{ℕ};
-ghost use Rattle.answers.specs.Questions.{plain, about, askedBy, questionOf, sameBytes, stretchWord, lookupWord, stretch, lookup, unknown};
+ghost use Rattle.answers.specs.Questions.{plain, about, askedBy, questionOf, sameBytes, wordStretch, wordLookup, stretch, lookup, unknown};
 ghost use Rattle.arguments.specs.Words.{Reads};
 ghost use Rattle.arguments.specs.Asked.{asks};
 
@@ -56,7 +56,7 @@ fn word_alone(word: &[u8]) -> Question
 
 // A word and a component's number.
 fn about_component(word: &[u8], c: u32) -> Question
-    ensures { λ r. ⌜ asks r ≡ cond (sameBytes (now (word .entry)) stretchWord) (stretch c) unknown ⌝ }
+    ensures { λ r. ⌜ asks r ≡ cond (sameBytes (now (word .entry)) wordStretch) (stretch c) unknown ⌝ }
 {
     if same(word, b"stretch") {
         return Question::Stretch(c);
@@ -66,7 +66,7 @@ fn about_component(word: &[u8], c: u32) -> Question
 
 // A word and a combined state.
 fn about_state(word: &[u8], s0: u32, s1: u32, s2: u32, s3: u32) -> Question
-    ensures { λ r. ⌜ asks r ≡ cond (sameBytes (now (word .entry)) lookupWord) (lookup s0 s1 s2 s3) unknown ⌝ }
+    ensures { λ r. ⌜ asks r ≡ cond (sameBytes (now (word .entry)) wordLookup) (lookup s0 s1 s2 s3) unknown ⌝ }
 {
     if same(word, b"lookup") {
         return Question::Lookup(s0, s1, s2, s3);

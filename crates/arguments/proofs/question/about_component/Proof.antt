@@ -1,20 +1,20 @@
 use mathlib.Core.Path.{_≡_, refl, sym, _∙_}
 use mathlib.Core.Bool.{true, false}
 use borrow.Author.Needs.{needs}
-use Rattle.answers.specs.Questions.{sameBytes, stretchWord}
+use Rattle.answers.specs.Questions.{sameBytes, wordStretch}
 use Rattle.arguments.proofs.question.about_component.Statement.{statement}
 use Rattle.arguments.proofs.question.about_component.Tie as tie
 
 returns : tie.Need-returns
 returns c =
     let s = c .before in
-    let e : sameBytes (s .before .before .before .args .word .now) stretchWord ≡ true = sym (s .same .ensures) ∙ c .if1 .taken in
+    let e : sameBytes (s .before .before .before .args .word .now) wordStretch ≡ true = sym (s .same .ensures) ∙ c .if1 .taken in
     rw e refl
 
 returns-2 : tie.Need-returns-2
 returns-2 c =
     let s = c .before in
-    let e : sameBytes (s .before .before .before .args .word .now) stretchWord ≡ false = sym (s .same .ensures) ∙ c .if1 .left in
+    let e : sameBytes (s .before .before .before .args .word .now) wordStretch ≡ false = sym (s .same .ensures) ∙ c .if1 .left in
     rw e refl
 
 pub about-component-spec : {M : Type 1} → statement M
