@@ -17,7 +17,8 @@ ghost use Rattle.report.specs.Report.{Spelled};
 ghost use Rattle.lines.specs.Made.{Made};
 ghost use Rattle.answer_text.specs.Settled.{Settled, Counts};
 
-// A program reads the first bytes of a file, so many at most: they settle every longer input too (clause `longer`).
+// A program reads the first bytes of a file, so many at most: they settle every longer input too (clause `longer` of `answer_text`, from the theorem
+// `limit` of crate meaning).
 pub const FILE_BYTES: usize = 16385;
 
 // Room for every text: 4,096 words of at most eleven bytes each, and the line end.
