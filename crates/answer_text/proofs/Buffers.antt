@@ -9,13 +9,14 @@ use Rattle.meaning.specs.File.Promise.{listingBytes}
 use Rattle.answers.specs.Questions.{Question, questionOf}
 use Rattle.answers.specs.Printed.{printed}
 use Rattle.answers.proofs.Printed.{text-settled}
+use Rattle.io.specs.Counts.{Counts}
 use Rattle.text.specs.declared.Text.{Text}
 use Rattle.text.specs.Texts.{textOf}
 use Rattle.report.specs.Report.{Spelled, bytesIn}
 use Rattle.report.proofs.Copies.{copied, spelled-count}
 use Rattle.lines.specs.Made.{Made}
 use Rattle.lines.proofs.Appending.{made-fits}
-use Rattle.answer_text.specs.Settled.{Settled, Counts}
+use Rattle.answer_text.specs.Settled.{Settled}
 
 pub spelled : (text : Text) (l : List ℕ) → text ≡ textOf l → length l ≤ 2048 → Spelled text l
 spelled text l e h = record { same = e; short = h }

@@ -1,23 +1,23 @@
 -- Each question's text, from its outcome or from what was read.
-use mathlib.Core.Path.{_≡_, refl, sym, ap, subst, _∙_}
+use mathlib.Core.Path.{_≡_, refl, sym, ap, subst}
 use mathlib.Core.Bool.{Bool, true, false}
 use mathlib.Core.List.{List}
-use lib.Dec.{T, leb, ltb, leb→le}
-use lib.ListN.{length, take, drop, length-take, length-drop}
+use lib.Dec.{T, leb, leb→le}
+use lib.ListN.{length, drop, length-take}
 use native.Mathlib.Omega.{arith}
 use borrow.Author.Tests.{le-leb}
 use Prim.Native.Nat.{ℕ, _+_, _-_, _*_, _≤_}
 use Rattle.meaning.specs.Instrument.{Instrument}
 use Rattle.meaning.specs.Verdict.{Answer, judged, clash, oversized}
-use Rattle.meaning.specs.File.Parser.{Got, found, fault, on}
+use Rattle.meaning.specs.File.Parser.{Got, found, fault}
 use Rattle.meaning.specs.File.Number.{choose}
 use Rattle.meaning.specs.File.Grammar.{Contents, instrumentOf, limits, readFile}
 use Rattle.meaning.specs.File.Promise.{Promised}
-use Rattle.meaning.specs.File.Stretches.{Stretch, stretchOf, located, startOf, endOf}
-use Rattle.meaning.specs.Reference.Answers.{refused, entries, fitting, listBelow, fullCount, fullWord, fullWords, mergedSize, mergedWord, mergedWords}
+use Rattle.meaning.specs.File.Stretches.{Stretch, located, startOf, endOf}
+use Rattle.meaning.specs.Reference.Answers.{refused, fitting, listBelow, fullCount, fullWord, fullWords, mergedSize, mergedWord, mergedWords}
 use Rattle.meaning.proofs.Basic.Entries.{list-length}
 use Rattle.meaning.proofs.File.Reads.{file-promised}
-use Rattle.meaning.proofs.File.Longest.{no-longer}
+use Rattle.meaning.proofs.File.Limit.{located-end}
 use Rattle.meaning.proofs.File.Faults.{located-faults}
 use Rattle.cursor.specs.Answers.{number}
 use Rattle.cursor.specs.declared.Refusal.{Refusal}
@@ -103,34 +103,17 @@ module _ (file : List ℕ) (c : ℕ) where
       go (found s end) e = absurd (number-some cause e)
       go (fault r) e = ap refusalLine (sym e)
 
-  -- or handed back
-  located-found : (X : Type 0) → 0 ≡ faultNumber (located file c) → ((s : Stretch) (end : ℕ) → located file c ≡ found s end → X) → X
-  located-found X z h = go (located file c) refl z
-    where
-      go : (g : Got Stretch) → located file c ≡ g → 0 ≡ faultNumber g → X
-      go (found s end) e z = h s end e
-      go (fault r) e z = absurd (omega (arith, located-faults file c r e .0))
-
+  -- or handed back: no fault has number 0
   pub stretch-given : 0 ≡ faultNumber (located file c) → printed (stretch c) file ≡ hexadecimalLine (componentBytes file c)
   unfolding printed
-  stretch-given z = located-found _ z (λ s end e. ap (λ g. stretchText g (componentBytes file c)) e)
-
-  accepted-short : (s : Stretch) (end : ℕ) → located file c ≡ found s end → length file ≤ 10771
-  accepted-short s end e = go (readFile file) refl e
+  stretch-given z = go (located file c) refl z
     where
-      go : (g : Got Contents) → readFile file ≡ g
-          → on g (λ k end. choose (ltb c (length (k .components))) (stretchOf c file 0) (fault 3)) ≡ found s end → length file ≤ 10771
-      go (found k at) r e = no-longer file k at r .1
-      go (fault r) q e = let z : _≡_ {A = ℕ} 0 1 = cc in let y : ⊥ = omega arith in absurd y
+      go : (g : Got Stretch) → located file c ≡ g → 0 ≡ faultNumber g → stretchText g (componentBytes file c) ≡ hexadecimalLine (componentBytes file c)
+      go (found s end) e z = refl
+      go (fault r) e z = absurd (omega (arith, located-faults file c r e .0))
 
-  pub stretch-short : 0 ≡ faultNumber (located file c) → (bytes : List ℕ) → bytes ≡ componentBytes file c → 2 * length bytes + 1 ≤ 45057
-  stretch-short z bytes b =
-      located-found _ z (λ s end e.
+  -- its bytes in hexadecimal have room: they end within the bytes that settle every input
+  pub stretch-short : (bytes : List ℕ) → bytes ≡ componentBytes file c → 2 * length bytes + 1 ≤ 45057
+  stretch-short bytes b =
       let g = located file c in
-      omega (
-        arith,
-        ap length b,
-        length-take (endOf g - startOf g) (drop (startOf g) file),
-        length-drop (startOf g) file,
-        accepted-short s end e,
-      ))
+      omega (arith, ap length b, length-take (endOf g - startOf g) (drop (startOf g) file), located-end file c)

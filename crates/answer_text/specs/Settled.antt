@@ -1,8 +1,8 @@
 -- The text made from the first bytes of an input is the text for the whole input.
 use mathlib.Core.Path.{_≡_}
 use mathlib.Core.List.{List}
-use lib.ListN.{length, take}
-use Prim.Native.Nat.{ℕ, _≤_}
+use lib.ListN.{take}
+use Prim.Native.Nat.{ℕ}
 use Rattle.answers.specs.Questions.{questionOf}
 use Rattle.answers.specs.Printed.{printed}
 use Rattle.lines.specs.Made.{Made}
@@ -10,7 +10,3 @@ use Rattle.lines.specs.Made.{Made}
 -- whatever input begins with the file, where the file is all of it or has so many bytes
 pub record Settled (bytes : ℕ) (line file : List ℕ) (n : ℕ) (old new : List ℕ) : Type 0 where
   pub longer : (all : List ℕ) → file ≡ take bytes all → Made (printed (questionOf line) all) n old new
-
--- n counts bytes at the start of the buffer
-abbrev pub Counts : ℕ → List ℕ → Type 0
-Counts n buffer = (n ≤ length buffer) × (n ≡ length (take n buffer))

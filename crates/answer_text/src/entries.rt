@@ -6,7 +6,6 @@ use instrument::Instrument;
 use queries::Asked;
 use queries::Written;
 use reader::Outcome;
-ghost use mathlib.Core.Path.{_≡_};
 ghost use lib.ListN.{length};
 ghost use Rattle.meaning.specs.File.Grammar.{Contents, instrumentOf};
 ghost use Rattle.meaning.specs.Reference.Answers.{markWords};

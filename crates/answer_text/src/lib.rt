@@ -15,7 +15,8 @@ ghost use Rattle.answers.specs.Printed.{printed};
 ghost use Rattle.arguments.specs.Asked.{asks};
 ghost use Rattle.report.specs.Report.{Spelled};
 ghost use Rattle.lines.specs.Made.{Made};
-ghost use Rattle.answer_text.specs.Settled.{Settled, Counts};
+ghost use Rattle.io.specs.Counts.{Counts};
+ghost use Rattle.answer_text.specs.Settled.{Settled};
 
 // A program reads the first bytes of a file, so many at most: they settle every longer input too (clause `longer` of `answer_text`, from the theorem
 // `limit` of crate meaning).

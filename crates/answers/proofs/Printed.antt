@@ -3,8 +3,6 @@ use mathlib.Core.Path.{_≡_, refl, ap, ap₂}
 use mathlib.Core.List.{List, [], _∷_}
 use lib.ListN.{length, take}
 use Prim.Native.Nat.{ℕ}
-use Rattle.meaning.specs.File.Grammar.{Contents, readFile}
-use Rattle.meaning.specs.File.Parser.{Got}
 use Rattle.meaning.specs.File.Promise.{listingBytes}
 use Rattle.meaning.specs.Reference.Answers.{fullCount, fullWords, markWords, mergedSize, mergedWords}
 use Rattle.meaning.proofs.File.Limit.{located-limit}

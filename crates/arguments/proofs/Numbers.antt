@@ -2,12 +2,12 @@
 use mathlib.Core.Path.{_≡_, refl, sym, ap, ap₂, _∙_}
 use mathlib.Core.Bool.{Bool, true, false, _&&_, cond}
 use mathlib.Core.List.{List, [], _∷_, _++_, map, append-nil, append-assoc}
-use lib.ListN.{length, getD, take, drop, set, length-set}
+use lib.ListN.{length, take, drop, set, length-set}
 use lib.Seq.{take-suc, take-set-le, getD-set-same}
 use native.Mathlib.Numerals.{add-one}
 use native.Mathlib.Omega.{arith}
-use Prim.Native.Nat.{ℕ, suc, _+_, _-_, _≤_, _<_}
-use Rattle.answers.specs.Questions.{wordsOf, isNumber, numberOf, allNumbers}
+use Prim.Native.Nat.{ℕ, _+_, _-_, _≤_, _<_}
+use Rattle.answers.specs.Questions.{isNumber, numberOf, allNumbers}
 use Rattle.arguments.specs.declared.Argument.the-variants.{Number, Unusable}
 use Rattle.arguments.specs.declared.line.Numbers.{Numbers}
 use Rattle.arguments.specs.Decimal.{argumentOf}
@@ -55,7 +55,7 @@ module _ (line : List ℕ) (from : ℕ) where
         → Taken line from (end + 1) (count + 1) (set values count v)
     taken-more v e l =
         record {
-          reached = omega (arith, h .within);
+          reached = omega (arith, h .clear .within);
           few = omega arith;
           long = length-set values count v ∙ t .long;
           numbers = t .numbers ∙ ap allNumbers (next-word line at end h) ∙ ap (λ b. b && allNumbers (wordsFrom line (end + 1))) (is-number word v e .number);

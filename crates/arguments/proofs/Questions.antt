@@ -1,14 +1,14 @@
 -- Which question a word and numbers are.
 use mathlib.Core.Path.{_≡_, refl, sym, ap, ap₂, _∙_}
-use mathlib.Core.Bool.{Bool, true, false, _&&_, cond}
+use mathlib.Core.Bool.{Bool, true, false, cond}
 use mathlib.Core.List.{List, [], _∷_, map}
 use lib.Dec.{T, eqb, eqb→eq, eqb-refl}
 use lib.ListN.{length, getD, take, length-map}
 use lib.Seq.{length-take-le}
 use native.Mathlib.Omega.{arith}
-use Prim.Native.Nat.{ℕ, zero, suc, _≤_, _<_}
+use Prim.Native.Nat.{ℕ, _≤_, _<_}
 use Rattle.meaning.proofs.Basic.Booleans.{and-in, and-l, and-r, is-true, is-false}
-use Rattle.answers.specs.Questions.{sameBytes, isNumber, numberOf, allNumbers, Question, unknown, plain, about, askedBy}
+use Rattle.answers.specs.Questions.{sameBytes, numberOf, allNumbers, unknown, plain, about, askedBy}
 use Rattle.arguments.specs.Words.{Given, Unfit, other, many}
 
 -- the test of two words

@@ -10,7 +10,7 @@ use native.Mathlib.Decide.{decLt}
 use native.Mathlib.Omega.{arith}
 use borrow.Author.Tests.{le-leb, lt-leb, ne-eqb}
 use Prim.Native.Nat.{ℕ, zero, suc, _+_, _-_, _≤_, _<_, compare·suc-suc}
-use Rattle.answers.specs.Questions.{begun, wordsOf}
+use Rattle.answers.specs.Questions.{wordsOf}
 use Rattle.arguments.specs.Words.{Unspaced, Ends, wordsFrom}
 
 -- the words after the first n bytes of a line and the space behind them
@@ -35,10 +35,10 @@ words-split (suc n) (b ∷ bs) h dark stop =
 pub next-word : (line : List ℕ) (from end : ℕ) → Ends line from end
     → wordsFrom line from ≡ take (end - from) (drop from line) ∷ wordsFrom line (end + 1)
 next-word line from end h =
-    rw (le-leb from (length line) (omega (arith, h .after, h .within)))
-    (words-split n d (omega (arith, h .after, h .within, length-drop from line)) (λ i l e.
-    h .none (from + i) (omega arith) (omega (arith, h .after)) (sym (getD-drop from line i 0) ∙ e))
-    (λ l. getD-drop from line n 0 ∙ ap (λ k. getD line k 0) there ∙ h .stop (omega (arith, h .after, length-drop from line)))
+    rw (le-leb from (length line) (omega (arith, h .clear .after, h .clear .within)))
+    (words-split n d (omega (arith, h .clear .after, h .clear .within, length-drop from line)) (λ i l e.
+    h .clear .none (from + i) (omega arith) (omega (arith, h .clear .after)) (sym (getD-drop from line i 0) ∙ e))
+    (λ l. getD-drop from line n 0 ∙ ap (λ k. getD line k 0) there ∙ h .stop (omega (arith, h .clear .after, length-drop from line)))
     ∙ ap (λ ws. take n d ∷ ws) rest)
   where
     n : ℕ
@@ -48,19 +48,19 @@ next-word line from end h =
     d = drop from line
 
     there : from + n ≡ end
-    there = omega (arith, h .after)
+    there = omega (arith, h .clear .after)
 
     after : from + suc n ≡ end + 1
-    after = omega (arith, h .after)
+    after = omega (arith, h .clear .after)
 
     rest : behind n d ≡ wordsFrom line (end + 1)
     rest =
         elim (decLt end (length line)) [
           | yes l ↦
-              rw (le-leb (suc n) (length d) (omega (arith, h .after, length-drop from line)), le-leb (end + 1) (length line) (omega arith))
+              rw (le-leb (suc n) (length d) (omega (arith, h .clear .after, length-drop from line)), le-leb (end + 1) (length line) (omega arith))
               (ap wordsOf (drop-drop (suc n) from line ∙ ap (λ k. drop k line) after))
           | no l ↦
-              rw (lt-leb (suc n) (length d) (omega (arith, h .after, length-drop from line)), lt-leb (end + 1) (length line) (omega arith)) refl
+              rw (lt-leb (suc n) (length d) (omega (arith, h .clear .after, length-drop from line)), lt-leb (end + 1) (length line) (omega arith)) refl
         ]
 
 -- the words of a whole line
@@ -85,7 +85,7 @@ module _ (line : List ℕ) (from : ℕ) where
       }
 
   pub ends-space : (at : ℕ) → Unspaced line from at → at < length line → getD line at 0 ≡ 32 → Ends line from at
-  ends-space at u l e = record { after = u .after; within = u .within; none = u .none; stop = λ h. e }
+  ends-space at u l e = record { clear = u; stop = λ h. e }
 
   pub ends-line : (at : ℕ) → Unspaced line from at → length line ≤ at → Ends line from at
-  ends-line at u l = record { after = u .after; within = u .within; none = u .none; stop = λ h. absurd (omega arith) }
+  ends-line at u l = record { clear = u; stop = λ h. absurd (omega arith) }

@@ -1,4 +1,4 @@
--- The question that an answer of `question` stands for.
+-- The question that an answer of `question_of` stands for.
 use Rattle.answers.specs.Questions as asked
 use Rattle.arguments.specs.declared.question.Question.{Question}
 use Rattle.arguments.specs.declared.question.Question.the-variants.{Full, Marks, Classes, Merged, Listing, Verdict, Stretch, Lookup, Unknown}

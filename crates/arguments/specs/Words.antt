@@ -17,9 +17,7 @@ pub record Unspaced (line : List ℕ) (from at : ℕ) : Type 0 where
 
 -- a word from this place on ends here: no space lies between, and a space or the line's end follows
 pub record Ends (line : List ℕ) (from end : ℕ) : Type 0 where
-  pub after : from ≤ end
-  pub within : end ≤ length line
-  pub none : (i : ℕ) → from ≤ i → i < end → getD line i 0 ≢ 32
+  pub clear : Unspaced line from end
   pub stop : end < length line → getD line end 0 ≡ 32
 
 -- the words that begin at this place or later; none past the line's end

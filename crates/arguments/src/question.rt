@@ -6,7 +6,7 @@ ghost use mathlib.Core.Path.{_≡_};
 ghost use mathlib.Core.Bool.{cond};
 ghost use mathlib.Core.List.{List, _∷_};
 ghost use Prim.Native.Nat.{ℕ};
-ghost use Rattle.answers.specs.Questions.{plain, about, askedBy, questionOf, sameBytes, wordStretch, wordLookup, stretch, lookup, unknown};
+ghost use Rattle.answers.specs.Questions.{plain, askedBy, questionOf, sameBytes, wordStretch, wordLookup, stretch, lookup, unknown};
 ghost use Rattle.arguments.specs.Words.{Reads};
 ghost use Rattle.arguments.specs.Asked.{asks};
 

@@ -26,7 +26,7 @@ hexadecimal-line-requires c κs =
     let b = c .before in
     let e = b .before in
     let s = e .before .before .before .before in
-    omega (arith, room c, stretch-short (s .args .file .now) (s .args .c) (fine e) (b .component-bytes .result .now) (b .component-bytes .ensures .0))
+    omega (arith, room c, stretch-short (s .args .file .now) (s .args .c) (b .component-bytes .result .now) (b .component-bytes .ensures .0))
 
 returns : tie.Need-returns
 returns c =

@@ -18,7 +18,7 @@ loop-holds : tie.Need-loop-holds Inv-loop μ-loop
 loop-holds c = taken-start _ _ _ (search needs) (c .before .pre)
 
 number-between-requires : tie.Need-number-between-requires Inv-loop μ-loop
-number-between-requires c κs = let w = c .word-end .ensures in (w .after, w .within)
+number-between-requires c κs = let w = c .word-end .ensures .clear in (w .after, w .within)
 
 returns : tie.Need-returns Inv-loop μ-loop
 returns c =
@@ -61,7 +61,7 @@ read-numbers-spec =
     (λ c. omega (arith, c .before .before .before .before .before .before .before .loop .inv .few))
     (λ c. omega (arith, c .before .before .before .before .before .before .before .loop .inv .few, c .if1 .left))
     (λ c. omega (arith, c .before .before .before .before .before .before .before .loop .inv .few))
-    (λ c. omega (arith, c .before .before .before .before .before .word-end .ensures .within))
-    (λ c. omega (arith, c .before .before .before .before .before .word-end .ensures .after, c .before .before .before .before .before .word-end .ensures .within))
+    (λ c. omega (arith, c .before .before .before .before .before .word-end .ensures .clear .within))
+    (λ c. omega (arith, c .before .before .before .before .before .word-end .ensures .clear .after, c .before .before .before .before .before .word-end .ensures .clear .within))
     loop-again
     returns-3)

@@ -18,10 +18,10 @@ question-of-spec =
     tie.close
     (tie.spec
     (λ c κs. search needs)
-    (λ c. omega (arith, c .word-end .ensures .within))
-    (λ c κs. omega (arith, c .word-end .ensures .within))
+    (λ c. omega (arith, c .word-end .ensures .clear .within))
+    (λ c κs. omega (arith, c .word-end .ensures .clear .within))
     (λ c. search needs)
     (λ c. search needs)
-    (λ c. omega (arith, c .before .word-end .ensures .within))
+    (λ c. omega (arith, c .before .word-end .ensures .clear .within))
     (λ c κs. search needs)
     returns)
