@@ -4,6 +4,7 @@ pub mod Padded
 pub mod Rows
 pub mod Loops
 pub mod Row
+pub mod Members
 -- The rule of EX, EG and EU: matching of successors, one round, rounds until unchanged
 pub mod Agree
 pub mod Matched

@@ -8,7 +8,7 @@ use native.Mathlib.Numerals.{add-one}
 use native.Mathlib.Omega.{arith}
 use Prim.Native.Nat.{ℕ, _+_, _^_, _≤_, _<_}
 use Rattle.words.specs.Sets.{has, built, below, complement, intersection, union, subset}
-use Rattle.words.proofs.Members.{has-none, has-union, has-intersection, intersection-lt-r, subset-in, subset-out}
+use Rattle.words.proofs.Members.{has-none, has-union, has-intersection, intersection-lt, intersection-lt-r, below-lt, subset-in, subset-out}
 use Rattle.words.proofs.Built.{built-same, cut-built, has-built, has-complement, complement-lt}
 use Rattle.meaning.specs.Tests.{anyBelow}
 use Rattle.meaning.specs.Reference.Tests.{allBelow}
@@ -25,6 +25,15 @@ has-picked false w y = has-none y
 -- a word cut to the states, by its members
 pub cut-row : (n w : ℕ) (f : ℕ → Bool) → ((y : ℕ) → y < n → has w y ≡ f y) → intersection (below n) w ≡ built n f
 cut-row n w f h = cut-built n w ∙ built-same n (has w) f h
+
+-- a test of what is left of it
+pub cut-test : (n w : ℕ) (f : ℕ → Bool) → built n (λ y. has (intersection (below n) w) y && f y) ≡ built n (λ y. has w y && f y)
+cut-test n w f =
+    built-same n (λ y. has (intersection (below n) w) y && f y) (λ y. has w y && f y) (λ y l.
+    ap (λ b. b && f y) (ap (λ v. has v y) (cut-built n w) ∙ has-built n (has w) y l))
+
+pub cut-narrow : (n w : ℕ) → intersection (below n) w < 2 ^ n
+cut-narrow n w = intersection-lt n (below n) w (below-lt n)
 
 pub both-row : (n a b : ℕ) → intersection (below n) (intersection a b) ≡ built n (λ y. has a y && has b y)
 both-row n a b = cut-row n (intersection a b) (λ y. has a y && has b y) (λ y l. has-intersection a b y)
@@ -81,28 +90,6 @@ same-level n f false =
 pub level-row : (outs : List ℕ) (n j x : ℕ) {high low v : ℕ} {b : Bool} → high ≡ built n (λ y. has (getD outs y 0) j) → low ≡ complement n high
     → b ≡ has (getD outs x 0) j → v ≡ cond b high low → v ≡ built n (λ y. Bool·beq (has (getD outs x 0) j) (has (getD outs y 0) j))
 level-row outs n j x h l e d = d ∙ rw (l, h, e) (same-level n (λ y. has (getD outs y 0) j) (has (getD outs x 0) j))
-
--- ---- the union of the rows of a word's members
-pub joining-none : (n w : ℕ) (r : List ℕ) → Joining n w r 0 0
-joining-none n w r = record { bound = omega arith; bits = λ u. has-none u }
-
-pub joining-more : {n w : ℕ} {r : List ℕ} {m v : ℕ} → Joining n w r m v → v < n → {b : Bool} {z k : ℕ} → b ≡ has w v → z ≡ cond b (getD r v 0) 0
-    → k ≡ union z m → Joining n w r k (v + 1)
-joining-more {n} {w} {r} {m} {v} h l {b} {z} {k} eb ez ek =
-    record {
-      bound = omega arith;
-      bits =
-          λ u.
-          let e : has k u ≡ (has z u || has m u) = rw ek (has-union z m u) in
-          let f : has z u ≡ (has w v && rel r v u) = rw (ez, eb) (has-picked (has w v) (getD r v 0) u) in
-          rw (add-one v) (e ∙ ap₂ (λ a b. a || b) f (h .bits u));
-    }
-
-pub joining-end : {n w : ℕ} {r : List ℕ} {m v : ℕ} → Joining n w r m v → n ≤ v
-    → intersection (below n) m ≡ built n (λ u. anyBelow n (λ v. has w v && rel r v u))
-joining-end {n} {w} {r} {m} {v} h l =
-    let e : v ≡ n = let b = h .bound in omega arith in
-    cut-row n m (λ u. anyBelow n (λ v. has w v && rel r v u)) (λ u k. h .bits u ∙ ap (λ z. anyBelow z (λ v. has w v && rel r v u)) e)
 
 -- ---- one assignment: the members of w that are not in fail lie in the set of g
 pub covered-all : (n w fail : ℕ) (g : ℕ → Bool)

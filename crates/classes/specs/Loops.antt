@@ -6,7 +6,7 @@ use lib.Dec.{T}
 use lib.ListN.{getD}
 use Prim.Native.Nat.{ℕ, _^_, _≤_, _<_}
 use Rattle.words.specs.Sets.{has, built}
-use Rattle.meaning.specs.Tests.{anyBelow}
+use Rattle.words.specs.Passing.{Passing}
 use Rattle.meaning.specs.Classes.{classesBelow}
 use Rattle.meaning.specs.Reference.Tests.{allBelow}
 use Rattle.meaning.specs.Reference.Relation.{largestB}
@@ -24,10 +24,17 @@ pub record Filling (n : ℕ) (f : ℕ → ℕ) (l : List ℕ) (x : ℕ) : Type 0
   pub bound : x ≤ n
   pub list : l ≡ padded 32 x f
 
--- m is the union of the rows of w's members below v, on the way to n
-pub record Joining (n w : ℕ) (r : List ℕ) (m v : ℕ) : Type 0 where
-  pub bound : v ≤ n
-  pub bits : (u : ℕ) → has m u ≡ anyBelow v (λ v. has w v && rel r v u)
+-- m is the union of the rows of w's members but for those in `rest`
+pub record Joining (w : ℕ) (r : List ℕ) (m rest : ℕ) : Type 0 where
+  pub passing : Passing w rest (λ v. (u : ℕ) → T (rel r v u) → T (has m u))
+  pub from : (u : ℕ) → T (has m u) → (v : ℕ) × T (has w v) × T (rel r v u)
+
+-- of the members of w those that fail the test f have been taken out of `result`, but for those in `rest`
+pub record Sifting (f : ℕ → Bool) (w result rest : ℕ) : Type 0 where
+  pub passing : Passing w rest (λ t. T (has result t) → T (f t))
+  pub keeps : (t : ℕ) → T (has w t) → T (f t) → T (has result t)
+  pub only : (t : ℕ) → T (has result t) → T (has w t)
+  pub less : result ≤ w
 
 -- count is how many states below x are the name of their class, on the way to n
 pub record Counting (n : ℕ) (names : List ℕ) (count x : ℕ) : Type 0 where
@@ -35,10 +42,10 @@ pub record Counting (n : ℕ) (names : List ℕ) (count x : ℕ) : Type 0 where
   pub few : count ≤ x
   pub counted : count ≡ classesBelow (λ x. getD names x 0) x
 
--- w is the set of the states whose successors on the assignments below a are matched by those of x
-pub record MatchingOn (states inputs : ℕ) (succ r : List ℕ) (fail x w a : ℕ) : Type 0 where
+-- w is the set of the states in `among` whose successors on the assignments below a are matched by those of x
+pub record MatchingOn (states inputs : ℕ) (succ r : List ℕ) (fail x among w a : ℕ) : Type 0 where
   pub bound : a ≤ 2 ^ inputs
-  pub word : w ≡ built states (λ y. allBelow a (matchedOn states inputs succ r fail x y))
+  pub word : w ≡ built states (λ y. has among y && allBelow a (matchedOn states inputs succ r fail x y))
 
 -- r lies between the operands' relation and the largest relation inside it that keeps the rule
 pub record Refining (states inputs : ℕ) (succ compared operands : List ℕ) (pass fail : ℕ) (r : List ℕ) : Type 0 where

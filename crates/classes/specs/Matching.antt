@@ -23,9 +23,9 @@ matchedOn states inputs succ r fail x y a = allBelow states (meetB (stepTable st
 abbrev pub matchedBy : ℕ → ℕ → List ℕ → List ℕ → ℕ → ℕ → ℕ → Bool
 matchedBy states inputs succ r fail x y = matchedB (stepTable states inputs succ) (λ z. 0) (has fail) (λ u v. rel r v u) y x
 
--- row x has every such y
+-- row x has every such y that x is related to
 unfoldable pub matchedRows : ℕ → ℕ → List ℕ → List ℕ → ℕ → List ℕ
-matchedRows states inputs succ r fail = rows states (matchedBy states inputs succ r fail)
+matchedRows states inputs succ r fail = rows states (λ x y. rel r x y && matchedBy states inputs succ r fail x y)
 
 -- the states of own that are PASS with x, FAIL with x, or in alike
 unfoldable pub kept : ℕ → ℕ → ℕ → ℕ → ℕ → ℕ → ℕ

@@ -1,2 +1,3 @@
 pub mod Sets
+pub mod Passing
 pub mod First

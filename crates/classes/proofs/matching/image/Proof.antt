@@ -1,64 +1,43 @@
-use mathlib.Core.Path.{_∙_}
+use mathlib.Core.Path.{_≡_, _∙_}
 use native.Mathlib.Omega.{arith}
-use Prim.Native.Nat.{_-_}
-use borrow.Author.Needs.{needs}
+use Prim.Native.Nat.{_<_}
+use Rattle.words.proofs.Passing.{passing-lowest, passing-less}
 use Rattle.classes.specs.Loops.{Joining}
-use Rattle.classes.proofs.Row.{joining-none, joining-more, joining-end}
+use Rattle.classes.proofs.Members.{joining-start, joining-more, joining-end}
 use Rattle.classes.proofs.matching.image.Statement.{statement}
 use Rattle.classes.proofs.matching.image.Tie as tie
 
 abbrev Inv-loop : tie.InvT-loop
-Inv-loop states w r result₀ v₀ result v = Joining states w r result v
+Inv-loop r states w result₀ rest₀ result rest = Joining w r result rest
 
 abbrev μ-loop : tie.MeasureT-loop
-μ-loop states w r result₀ v₀ result v = states - v
+μ-loop r states w result₀ rest₀ result rest = rest
 
-loop-holds : tie.Need-loop-holds Inv-loop μ-loop
-loop-holds c = joining-none _ _ _
-
-cast-member : tie.Need-cast-member Inv-loop μ-loop
-cast-member c = omega arith
-
-member-requires : tie.Need-member-requires Inv-loop μ-loop
-member-requires c κs = omega arith
-
-mul-pick : tie.Need-mul-pick Inv-loop μ-loop
-mul-pick c = omega arith
-
-array-read-pick : tie.Need-array-read-pick Inv-loop μ-loop
-array-read-pick c = search needs
-
-pick-requires : tie.Need-pick-requires Inv-loop μ-loop
-pick-requires c κs = tt
-
-union-requires : tie.Need-union-requires Inv-loop μ-loop
-union-requires c κs = tt
-
-add-v : tie.Need-add-v Inv-loop μ-loop
-add-v c = omega arith
+-- the lowest member is below 32
+low : (c : tie.After-lowest Inv-loop μ-loop) → c .lowest .result < 32
+low c =
+    let l = c .before .before in
+    omega (arith, c .lowest .ensures, passing-lowest 32 (l .loop .inv .passing) (l .before .fits .w .fits) (c .before .loop-test .taken) .inside)
 
 loop-less : tie.Need-loop-less Inv-loop μ-loop
-loop-less c = omega arith
+loop-less c =
+    let t = c .before .before .before .before in
+    let l = t .before in
+    passing-less 32 (l .loop .inv .passing) (l .before .fits .w .fits) (t .loop-test .taken) (c .without-lowest .ensures)
 
 loop-again : tie.Need-loop-again Inv-loop μ-loop
 loop-again c =
-    let l = c .before .before .before .before in
-    joining-more (l .loop .inv) (c .before .before .before .loop-test .taken) (c .before .before .member .ensures) (c .before .pick .ensures)
-    (c .union .ensures)
-
-cast-below : tie.Need-cast-below Inv-loop μ-loop
-cast-below c = omega arith
-
-below-requires : tie.Need-below-requires Inv-loop μ-loop
-below-requires c κs = omega arith
-
-intersection-requires : tie.Need-intersection-requires Inv-loop μ-loop
-intersection-requires c κs = tt
+    let u = c .before in
+    let t = u .before .before .before in
+    let l = t .before in
+    joining-more 32 (l .loop .inv) (l .before .fits .w .fits) (t .loop-test .taken)
+    (u .union .ensures ∙ rw (u .before .before .lowest .ensures)) (c .without-lowest .ensures)
 
 returns : tie.Need-returns Inv-loop μ-loop
 returns c =
-    c .intersection .ensures
-    ∙ rw (c .before .below .ensures) (joining-end (c .before .before .before .loop .inv) (c .before .before .loop-test .left))
+    let b = c .before in
+    let l = b .before .before in
+    c .intersection .ensures ∙ rw (b .below .ensures) (joining-end _ (l .before .pre .1) (rw (b .before .loop-test .left) at (l .loop .inv)))
 
 pub image-spec : {M : Type 1} → statement M
 image-spec =
@@ -66,17 +45,16 @@ image-spec =
     (tie.spec
     Inv-loop
     μ-loop
-    loop-holds
-    cast-member
-    member-requires
-    mul-pick
-    array-read-pick
-    pick-requires
-    union-requires
-    add-v
+    (λ c. joining-start _ _)
+    (λ c κs. tt)
+    (λ c. omega (arith, low c))
+    (λ c. omega (arith, low c))
+    (λ c. omega (arith, low c))
+    (λ c κs. tt)
+    (λ c κs. omega arith)
     loop-less
     loop-again
-    cast-below
-    below-requires
-    intersection-requires
+    (λ c. omega arith)
+    (λ c κs. omega arith)
+    (λ c κs. tt)
     returns)

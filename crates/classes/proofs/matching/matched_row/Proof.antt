@@ -2,37 +2,24 @@ use mathlib.Core.Path.{_≡_, _∙_}
 use native.Mathlib.Omega.{arith}
 use Prim.Native.Nat.{_-_, _^_}
 use Rattle.words.proofs.Digits.{power-word}
+use Rattle.meaning.specs.StepWords.{Steps}
 use Rattle.classes.specs.Loops.{MatchingOn}
-use Rattle.classes.proofs.Matched.{matching-none, matching-more, matching-end}
+use Rattle.classes.proofs.Matched.{matching-start, matching-more, matching-narrow, matching-end, matching-none}
 use Rattle.classes.proofs.Component.{within}
 use Rattle.classes.proofs.matching.matched_row.Statement.{statement}
 use Rattle.classes.proofs.matching.matched_row.Tie as tie
 
 abbrev Inv-loop : tie.InvT-loop
-Inv-loop succ states inputs r fail x live count result₀ a₀ result a = (count ≡ 2 ^ inputs) × MatchingOn states inputs succ r fail x result a
+Inv-loop succ states inputs r fail x among live count result₀ a₀ result a =
+    (count ≡ 2 ^ inputs) × MatchingOn states inputs succ r fail x among result a
 
 abbrev μ-loop : tie.MeasureT-loop
-μ-loop succ states inputs r fail x live count result₀ a₀ result a = count - a
-
-cast-complement : tie.Need-cast-complement Inv-loop μ-loop
-cast-complement c = omega (arith, c .before .pre .0 .most-states)
-
-complement-requires : tie.Need-complement-requires Inv-loop μ-loop
-complement-requires c κs = c .before .pre .0 .most-states
-
-shl-count : tie.Need-shl-count Inv-loop μ-loop
-shl-count c = omega arith
-
-cast-below : tie.Need-cast-below Inv-loop μ-loop
-cast-below c = omega (arith, c .before .before .pre .0 .most-states)
-
-below-requires : tie.Need-below-requires Inv-loop μ-loop
-below-requires c κs = c .before .before .pre .0 .most-states
+μ-loop succ states inputs r fail x among live count result₀ a₀ result a = count - a
 
 loop-holds : tie.Need-loop-holds Inv-loop μ-loop
 loop-holds c =
-    let s = c .before .before .before in
-    (power-word 64 _ (omega (arith, s .pre .0 .most-inputs)), rw (c .below .ensures) (matching-none _ _ _ _ _ _))
+    let p = c .before .before .pre in
+    (power-word 64 _ (omega (arith, p .0 .most-inputs)), matching-start _ _ _ _ _ _ _ (p .2))
 
 successors-requires : tie.Need-successors-requires Inv-loop μ-loop
 successors-requires c κs =
@@ -40,31 +27,29 @@ successors-requires c κs =
     (p .0 .most-inputs, within (p .0) _ _ (p .1) (omega arith))
 
 image-requires : tie.Need-image-requires Inv-loop μ-loop
-image-requires c κs = c .before .before .before .before .before .before .pre .0 .most-states
+image-requires c κs =
+    let p = c .before .before .before .before .before .before .pre in
+    (p .0 .most-states, rw (c .successors .ensures) (p .0 .narrow _ _ (p .1) (omega arith)))
 
 covered-requires : tie.Need-covered-requires Inv-loop μ-loop
-covered-requires c κs = (c .before .before .before .before .before .before .before .pre .0, omega arith)
-
-intersection-requires : tie.Need-intersection-requires Inv-loop μ-loop
-intersection-requires c κs = tt
-
-add-a : tie.Need-add-a Inv-loop μ-loop
-add-a c = omega arith
-
-loop-less : tie.Need-loop-less Inv-loop μ-loop
-loop-less c = omega arith
+covered-requires c κs =
+    let l = c .before .before .before .before in
+    (l .before .before .before .pre .0, omega arith, matching-narrow _ _ _ _ _ _ (l .loop .inv .1))
 
 loop-again : tie.Need-loop-again Inv-loop μ-loop
 loop-again c =
-    let i = c .before .before in
-    let l = i .before .before .before in (
+    let i = c .before in
+    let l = i .before .before .before .before in (
       l .loop .inv .0,
-      matching-more (l .loop .inv .1) (omega arith) (i .image .ensures ∙ rw (i .before .successors .ensures))
-          (c .before .covered .ensures ∙ rw (l .before .before .complement .ensures)) (c .intersection .ensures),
+      matching-more _ _ _ _ _ _ (l .loop .inv .1) (omega arith) (i .image .ensures ∙ rw (i .before .successors .ensures))
+          (c .covered .ensures ∙ rw (l .before .complement .ensures)),
     )
 
 returns : tie.Need-returns Inv-loop μ-loop
-returns c = matching-end (c .before .loop .inv .1) (omega arith)
+returns c = matching-none _ _ _ _ _ _ (c .before .before .loop .inv .1) (c .if1 .taken)
+
+returns-2 : tie.Need-returns-2 Inv-loop μ-loop
+returns-2 c = matching-end _ _ _ _ _ _ (c .before .loop .inv .1) (omega arith)
 
 pub matched-row-spec : {M : Type 1} → statement M
 matched-row-spec =
@@ -72,17 +57,15 @@ matched-row-spec =
     (tie.spec
     Inv-loop
     μ-loop
-    cast-complement
-    complement-requires
-    shl-count
-    cast-below
-    below-requires
+    (λ c. omega (arith, c .before .pre .0 .most-states))
+    (λ c κs. c .before .pre .0 .most-states)
+    (λ c. omega arith)
     loop-holds
+    returns
     successors-requires
     image-requires
     covered-requires
-    intersection-requires
-    add-a
-    loop-less
+    (λ c. omega arith)
+    (λ c. omega arith)
     loop-again
-    returns)
+    returns-2)

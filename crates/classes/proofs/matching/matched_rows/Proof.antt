@@ -1,41 +1,39 @@
+use mathlib.Core.Path.{_∙_}
+use mathlib.Core.Bool.{_&&_}
 use native.Mathlib.Omega.{arith}
 use Prim.Native.Nat.{_-_}
+use borrow.Author.Needs.{needs}
 use Rattle.words.specs.Sets.{built}
 use Rattle.classes.specs.Loops.{Filling}
 use Rattle.classes.specs.Matching as matching
-use Rattle.classes.specs.Rows.{rows}
+use Rattle.classes.specs.Rows.{rel, rows}
+use Rattle.classes.proofs.Row.{cut-narrow, cut-test}
 use Rattle.classes.proofs.Loops.{filling-none, filling-more, filling-end}
 use Rattle.classes.proofs.matching.matched_rows.Statement.{statement}
 use Rattle.classes.proofs.matching.matched_rows.Tie as tie
 
 abbrev Inv-loop : tie.InvT-loop
-Inv-loop succ states inputs r fail result₀ x₀ result x = Filling states (λ x. built states (matching.matchedBy states inputs succ r fail x)) result x
+Inv-loop succ states inputs fail r all result₀ x₀ result x =
+    Filling states (λ x. built states (λ y. rel r x y && matching.matchedBy states inputs succ r fail x y)) result x
 
 abbrev μ-loop : tie.MeasureT-loop
-μ-loop succ states inputs r fail result₀ x₀ result x = states - x
-
-loop-holds : tie.Need-loop-holds Inv-loop μ-loop
-loop-holds c = filling-none _ _
+μ-loop succ states inputs fail r all result₀ x₀ result x = states - x
 
 matched-row-requires : tie.Need-matched-row-requires Inv-loop μ-loop
-matched-row-requires c κs = (c .before .before .before .pre, c .loop-test .taken)
-
-mul-result : tie.Need-mul-result Inv-loop μ-loop
-mul-result c = omega (arith, c .before .before .before .before .pre .most-states)
-
-array-write-result : tie.Need-array-write-result Inv-loop μ-loop
-array-write-result c = omega (arith, c .before .before .before .before .pre .most-states)
-
-add-x : tie.Need-add-x Inv-loop μ-loop
-add-x c = omega arith
-
-loop-less : tie.Need-loop-less Inv-loop μ-loop
-loop-less c = omega arith
+matched-row-requires c κs =
+    let i = c .before in
+    let l = i .before .before in (
+      l .before .before .before .pre,
+      i .before .loop-test .taken,
+      rw (i .intersection .ensures, l .before .below .ensures) (cut-narrow _ _),
+    )
 
 loop-again : tie.Need-loop-again Inv-loop μ-loop
 loop-again c =
-    let l = c .before .before in
-    filling-more (l .loop .inv) (l .before .before .pre .most-states) (c .before .loop-test .taken) (c .matched-row .ensures)
+    let i = c .before .before in
+    let l = i .before .before in
+    filling-more (l .loop .inv) (l .before .before .before .pre .most-states) (i .before .loop-test .taken)
+    (c .matched-row .ensures ∙ rw (i .intersection .ensures, l .before .below .ensures) (cut-test _ _ _))
 
 returns : tie.Need-returns Inv-loop μ-loop
 unfolding matching.matchedRows rows
@@ -47,11 +45,16 @@ matched-rows-spec =
     (tie.spec
     Inv-loop
     μ-loop
-    loop-holds
+    (λ c. omega (arith, c .before .pre .most-states))
+    (λ c κs. c .before .pre .most-states)
+    (λ c. filling-none _ _)
+    (λ c. omega arith)
+    (λ c. let m = c .before .before .before .before .pre .most-states in search needs)
+    (λ c κs. tt)
     matched-row-requires
-    mul-result
-    array-write-result
-    add-x
-    loop-less
+    (λ c. omega arith)
+    (λ c. let m = c .before .before .before .before .before .before .before .pre .most-states in search needs)
+    (λ c. omega arith)
+    (λ c. omega arith)
     loop-again
     returns)
