@@ -10,7 +10,12 @@ pub mod Agree
 pub mod Matched
 pub mod Ruled
 pub mod Sum
-pub mod Refining
+pub mod Changed
+pub mod Failing
+pub mod RowLook
+pub mod RowDelete
+pub mod Looks
+pub mod Fixed
 -- Names and count of classes
 pub mod Naming
 -- What the definitions mean; a formula's relation from those of its operands

@@ -18,7 +18,7 @@ use Rattle.classes.specs.Rows.{rel}
 use Rattle.classes.specs.Matching.{kept}
 use Rattle.classes.specs.Loops.{Joining}
 
-has-picked : (b : Bool) (w y : ℕ) → has (cond b w 0) y ≡ (b && has w y)
+pub has-picked : (b : Bool) (w y : ℕ) → has (cond b w 0) y ≡ (b && has w y)
 has-picked true w y = refl
 has-picked false w y = has-none y
 

@@ -4,13 +4,10 @@ use mathlib.Core.List.{List, [], _∷_}
 use lib.ListN.{length, getD}
 use native.Mathlib.Decide.{ℕ-discrete}
 use native.Mathlib.Omega.{arith}
-use Prim.Native.Nat.{ℕ, suc, _+_, _≤_, _<_}
+use Prim.Native.Nat.{ℕ, suc, _≤_, _<_}
+use Rattle.classes.specs.Again.{sum}
 
-pub sum : List ℕ → ℕ
-sum [] = 0
-sum (x ∷ xs) = x + sum xs
-
-sum-le : (a b : List ℕ) → length a ≡ length b → ((i : ℕ) → getD a i 0 ≤ getD b i 0) → sum a ≤ sum b
+pub sum-le : (a b : List ℕ) → length a ≡ length b → ((i : ℕ) → getD a i 0 ≤ getD b i 0) → sum a ≤ sum b
 unfolding sum
 sum-le [] [] e h = omega arith
 sum-le [] (y ∷ b) e h = omega arith

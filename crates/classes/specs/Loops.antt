@@ -7,6 +7,7 @@ use lib.ListN.{getD}
 use Prim.Native.Nat.{ℕ, _^_, _≤_, _<_}
 use Rattle.words.specs.Sets.{has, built}
 use Rattle.words.specs.Passing.{Passing}
+use Rattle.meaning.specs.Tests.{anyBelow}
 use Rattle.meaning.specs.Classes.{classesBelow}
 use Rattle.meaning.specs.Reference.Tests.{allBelow}
 use Rattle.meaning.specs.Reference.Relation.{largestB}
@@ -29,6 +30,11 @@ pub record Joining (w : ℕ) (r : List ℕ) (m rest : ℕ) : Type 0 where
   pub passing : Passing w rest (λ v. (u : ℕ) → T (rel r v u) → T (has m u))
   pub from : (u : ℕ) → T (has m u) → (v : ℕ) × T (has w v) × T (rel r v u)
 
+-- w is the union of the sets f 0, f 1, .. below a, on the way to m
+pub record Uniting (n m : ℕ) (f : ℕ → ℕ) (w a : ℕ) : Type 0 where
+  pub bound : a ≤ m
+  pub word : w ≡ built n (λ v. anyBelow a (λ a. has (f a) v))
+
 -- of the members of w those that fail the test f have been taken out of `result`, but for those in `rest`
 pub record Sifting (f : ℕ → Bool) (w result rest : ℕ) : Type 0 where
   pub passing : Passing w rest (λ t. T (has result t) → T (f t))
@@ -46,9 +52,3 @@ pub record Counting (n : ℕ) (names : List ℕ) (count x : ℕ) : Type 0 where
 pub record MatchingOn (states inputs : ℕ) (succ r : List ℕ) (fail x among w a : ℕ) : Type 0 where
   pub bound : a ≤ 2 ^ inputs
   pub word : w ≡ built states (λ y. has among y && allBelow a (matchedOn states inputs succ r fail x y))
-
--- r lies between the operands' relation and the largest relation inside it that keeps the rule
-pub record Refining (states inputs : ℕ) (succ compared operands : List ℕ) (pass fail : ℕ) (r : List ℕ) : Type 0 where
-  pub inside : (x y : ℕ) → x < states → y < states → T (rel r x y) → T (rel operands x y)
-  pub holds : (x y : ℕ) → x < states → y < states
-      → T (largestB (stepTable states inputs succ) (λ z. getD compared z 0) (rel operands) (has pass) (has fail) x y) → T (rel r x y)

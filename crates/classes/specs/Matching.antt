@@ -40,8 +40,3 @@ rules compared r pass fail forth back x y =
 
 unfoldable pub ruled : ℕ → List ℕ → List ℕ → ℕ → ℕ → List ℕ → List ℕ → List ℕ
 ruled n compared r pass fail forth back = rows n (rules compared r pass fail forth back)
-
--- the outcome of a comparison of rows
-pub record Same (a b : List ℕ) (r : Bool) : Type 0 where
-  pub equal : r ≡ true → a ≡ b
-  pub other : r ≡ false → a ≡ b → ⊥

@@ -11,7 +11,7 @@ ghost use Rattle.classes.specs.Rows.{rel};
 ghost use Rattle.classes.specs.Matching as matched;
 
 // The successor word of state x on assignment a.
-fn successors(succ: &[u32], inputs: usize, x: usize, a: usize) -> u32
+pub(crate) fn successors(succ: &[u32], inputs: usize, x: usize, a: usize) -> u32
     requires { ⌜ (inputs ≤ 4) × (2 ^ inputs * x + a < length (now succ)) ⌝ }
     ensures { λ r. ⌜ r ≡ component.successorWord inputs (now (succ .entry)) x a ⌝ }
 {

@@ -1,8 +1,12 @@
 // The rule of EX, EG and EU for every pair of states at once, and the largest relation that keeps it (document 01, Classes).
+use crate::again::predecessors;
 use crate::matching::matched_rows;
 use crate::relation::converse;
 use crate::relation::pick;
 use crate::relation::put;
+use crate::relation::rel_all;
+use crate::settle::Todo;
+use crate::settle::settle;
 ghost use mathlib.Core.Path.{_≡_};
 ghost use Prim.Native.Nat.{_≤_, _<_};
 ghost use lib.ListN.{length, getD};
@@ -84,21 +88,8 @@ pub fn rel_ex(
     ruled(compared, states, operand, pass, fail, forth, back)
 }
 
-// Whether two relations have the same rows.
-fn same(a: [u32; 32], b: [u32; 32]) -> bool
-    ensures { λ r. ⌜ matched.Same a b r ⌝ }
-{
-    let mut x: usize = 0;
-    while x < 32 {
-        if a[x] != b[x] {
-            return false;
-        }
-        x += 1;
-    }
-    true
-}
-
-// The relation of EG and EU: the largest inside the operands' that keeps the rule by itself and by FAIL of the node.
+// The relation of EG and EU: the largest inside the operands' that keeps the rule by itself and by FAIL of the node. Rows of the relation and of
+// its converse are looked at in turn until all are settled.
 pub fn rel_fixed(
     succ: &[u32],
     states: usize,
@@ -111,12 +102,54 @@ pub fn rel_fixed(
     requires { ⌜ Steps states inputs (now succ) × (states ≤ length (now compared)) ⌝ }
     ensures { λ s. ⌜ s ≡ relatedFixed states inputs (now (succ .entry)) (now (compared .entry)) operands pass fail ⌝ }
 {
-    let mut r = operands;
+    let pre = predecessors(succ, states, inputs);
+    let all = rel_all(states);
+    let mut rows = ruled(compared, states, operands, pass, fail, all, all);
+    let mut other = converse(rows, states);
+    let mut again = rows;
+    let mut back = other;
+    let every = words::below(states as u32);
+    let mut todo = Todo {
+        here: every,
+        there: every,
+    };
     loop {
-        let next = rel_ex(succ, states, inputs, compared, r, pass, fail, fail);
-        if same(next, r) {
-            return next;
+        let settled = settle(
+            succ,
+            states,
+            inputs,
+            pass,
+            fail,
+            &pre,
+            &mut rows,
+            &mut other,
+            &mut again,
+            &mut back,
+            todo,
+        );
+        if settled.there == 0 {
+            return rows;
         }
-        r = next;
+        let turned = Todo {
+            here: settled.there,
+            there: settled.here,
+        };
+        let left = settle(
+            succ,
+            states,
+            inputs,
+            pass,
+            fail,
+            &pre,
+            &mut other,
+            &mut rows,
+            &mut back,
+            &mut again,
+            turned,
+        );
+        todo = Todo {
+            here: left.there,
+            there: left.here,
+        };
     }
 }

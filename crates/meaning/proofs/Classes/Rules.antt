@@ -8,7 +8,7 @@ use Rattle.meaning.specs.Reference.Marks.{onB}
 use Rattle.meaning.specs.Reference.Relation.{alikeB, matchedB, meetB, ruleB}
 use Rattle.meaning.specs.Reference.Tests.{allBelow}
 use Rattle.meaning.specs.Relation.{Alike, InsidePairs, Matched, Rule, alike, failed, passed}
-use Rattle.meaning.specs.Table.{Table, assignments}
+use Rattle.meaning.specs.Table.{Table, assignments, Successor}
 use Rattle.meaning.proofs.Basic.Booleans.{and-in, conj, imp-in, imp-out, or-l, or-out, or-r}
 use Rattle.meaning.proofs.Basic.Bounded.{all-in, all-out}
 use Rattle.meaning.proofs.Basic.Decides.{Decides, DecidesPairs, not-decides}
@@ -19,8 +19,14 @@ module _ (t : Table) (compared : ℕ → ℕ) where
   abbrev pub Through : (ℕ → ℕ → Type 0) → ℕ → ℕ → Type 0
   Through X u w = (v : ℕ) × (v < t .states) × X u v × X v w
 
+  -- whether x and y are matched depends on the relation only at pairs of a successor of x and one of y
+  pub matched-at : {F : ℕ → Type 0} {X Y : ℕ → ℕ → Type 0} (x y : ℕ)
+      → ((a u v : ℕ) → a < assignments t → Successor t x a u → Successor t y a v → X u v → Y u v) → Matched t compared F X x y
+      → Matched t compared F Y x y
+  matched-at x y f h a l u s n = let c = h a l u s n in (c .0, c .1, f a u (c .0) l s (c .1) (c .2))
+
   matched-map : {F : ℕ → Type 0} {X Y : ℕ → ℕ → Type 0} → InsidePairs t X Y → (x y : ℕ) → Matched t compared F X x y → Matched t compared F Y x y
-  matched-map f x y h a l u s n = let c = h a l u s n in (c .0, c .1, f u (c .0) (s .0) (c .1 .0) (c .2))
+  matched-map f x y = matched-at x y (λ a u v l s r. f u v (s .0) (r .0))
 
   pub alike-map : {F : ℕ → Type 0} {X Y : ℕ → ℕ → Type 0} → InsidePairs t X Y → (x y : ℕ) → Alike t compared F X x y → Alike t compared F Y x y
   alike-map f x y h = record { same = h .same; forth = matched-map f x y (h .forth); back = matched-map (λ u v l k r. f v u k l r) y x (h .back) }
@@ -62,13 +68,13 @@ module _ (t : Table) (compared : ℕ → ℕ) where
       })
 
   module _ {F : ℕ → Type 0} {f : ℕ → Bool} (d : Decides (t .states) f F) (Z : ℕ → ℕ → Bool) where
-    match-out : (x y : ℕ) → T (matchedB t compared f Z x y) → Matched t compared F (λ u v. T (Z u v)) x y
+    pub match-out : (x y : ℕ) → T (matchedB t compared f Z x y) → Matched t compared F (λ u v. T (Z u v)) x y
     match-out x y h a l u s n =
         let r = all-out (t .states) (meetB t compared f Z x y a) (all-out (assignments t) (λ a. allBelow (t .states) (meetB t compared f Z x y a)) h a l) u (s .0) in
         into t (Z u) y a (imp-out (t .next x a u && not (f u)) (onB t (Z u) y a) r
         (and-in (t .next x a u) (not (f u)) (s .1) (not-decides d .whole u (s .0) n)))
 
-    match-in : (x y : ℕ) → Matched t compared F (λ u v. T (Z u v)) x y → T (matchedB t compared f Z x y)
+    pub match-in : (x y : ℕ) → Matched t compared F (λ u v. T (Z u v)) x y → T (matchedB t compared f Z x y)
     match-in x y h =
         all-in (assignments t) (λ a. allBelow (t .states) (meetB t compared f Z x y a)) (λ a l.
         all-in (t .states) (meetB t compared f Z x y a) (λ u k.
