@@ -27,7 +27,7 @@ use Rattle.combination.specs.Combined.{barredAt}
 use Rattle.truth.specs.Nodes.{combinedB, combinedWord}
 use Rattle.truth.proofs.Nodes.{combined-guarded}
 use Rattle.merging.proofs.Tables.{Agreeing}
-use Rattle.merged.specs.Words.{failClasses}
+use Rattle.merged.specs.Bars.{failClasses}
 use Rattle.merged.proofs.Agreeing.{combined-same}
 
 -- none passes a test if all fail it

@@ -2,9 +2,6 @@
 pub mod Agreeing
 pub mod Guarded
 pub mod Words
--- The way down from the root
-pub mod Reaching
-pub mod Root
 -- The classes that are barred, and all parts together
 pub mod Barring
 pub mod BarRows

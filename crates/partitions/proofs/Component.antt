@@ -2,9 +2,11 @@
 use mathlib.Core.Path.{_≡_, refl, ap₂}
 use mathlib.Core.Bool.{Bool, cond}
 use mathlib.Core.List.{List, []}
+use lib.Dec.{T}
 use lib.ListN.{length, getD}
 use native.Mathlib.Omega.{arith}
 use Prim.Native.Nat.{ℕ, zero, suc, _-_, _≤_, _<_}
+use Rattle.words.specs.Sets.{has}
 use Rattle.meaning.specs.Table.{Table}
 use Rattle.meaning.specs.View.{View, wholeWords}
 use Rattle.meaning.specs.Nodes.{Node, formulaAt}
@@ -24,6 +26,8 @@ use Rattle.classes.specs.Names.{Inhabited, classNames}
 use Rattle.classes.proofs.Padded.{padded-same}
 use Rattle.classes.proofs.Rows.{rel-rows}
 use Rattle.classes.proofs.Meaning.{inhabited}
+use Rattle.subformulas.specs.Under.{underRoot, Closed}
+use Rattle.subformulas.proofs.Members.{root-under, under-closed}
 use Rattle.relations.specs.Relations.{formulaRelation, componentRelations}
 use Rattle.relations.proofs.NodeRelations.{relation-at}
 use Rattle.relations.proofs.Meaning.{related-equivalence, relation-decides}
@@ -47,36 +51,45 @@ root-names t κ ns m =
     related : ℕ → ℕ → Bool
     related = relB t κ (formulaAt ns (length ns - 1))
 
-module _ (t : Instrument) (k : Contents) (d : Describes t k) (i : ℕ) (l : i < t .components) where
+module _ (t : Instrument) (k : Contents) (d : Describes t k) (needed : ℕ) (u : needed ≡ underRoot (instrumentOf k)) where
   abbrev I : meaning.Instrument
   I = instrumentOf k
-
-  here : i < components I
-  here = omega (arith, table-count t k d)
-
-  small : table I i .states ≤ 32
-  small = few-states t k d i here
 
   -- the root is the last node
   abbrev root : ℕ
   root = length (k .nodes) - 1
 
-  root-lt : root < length (k .nodes)
-  root-lt = omega (arith, d .promised .nodeCount .0)
+  -- the operands of each node under the root are under it, and so is the root
+  pub needed-closed : Closed (k .nodes) needed
+  needed-closed = rw u (under-closed I (d .promised .earlier) (d .promised .nodeCount .0))
 
-  -- each state is related to a state, itself
-  pub root-inhabited : (r : List (List ℕ)) → r ≡ componentRelations I i → Inhabited (getD (t .states) i 0) (getD r (t .nodecount - 1) [])
-  root-inhabited r e =
-      rw (e, nodecount-is t k d, ← table-states t k d i)
-      (inhabited (table I i) small (getD (componentRelations I i) root []) (related-equivalence I good i here root)
-      (relation-decides I good i here root small (d .promised .nodeCount .1) root-lt))
-    where
-      good : Accepted I
-      good = accepted limits k (d .promised)
+  root-needed : T (has needed root)
+  root-needed = rw u (root-under I (d .promised .earlier) (d .promised .nodeCount .0))
 
-  pub root-classes : (r : List (List ℕ)) → r ≡ componentRelations I i
-      → classNames (getD r (t .nodecount - 1) []) (getD (t .states) i 0) ≡ componentClasses I i
-  root-classes r e =
-      let a = relation-at (table I i) (wholeWords (table I i)) (k .nodes) (d .promised .nodeCount .1) root root-lt in
-      rw (e, nodecount-is t k d, ← table-states t k d i, a)
-      (root-names (table I i) (wholeWords (table I i)) (k .nodes) small)
+  module _ (i : ℕ) (l : i < t .components) where
+    here : i < components I
+    here = omega (arith, table-count t k d)
+
+    small : table I i .states ≤ 32
+    small = few-states t k d i here
+
+    root-lt : root < length (k .nodes)
+    root-lt = omega (arith, d .promised .nodeCount .0)
+
+    -- each state is related to a state, itself
+    pub root-inhabited : (r : List (List ℕ)) → r ≡ componentRelations I i needed
+        → Inhabited (getD (t .states) i 0) (getD r (t .nodecount - 1) [])
+    root-inhabited r e =
+        rw (e, nodecount-is t k d, ← table-states t k d i)
+        (inhabited (table I i) small (getD (componentRelations I i needed) root []) (related-equivalence I good i here root)
+        (relation-decides I good i here root small (d .promised .nodeCount .1) root-lt needed root-needed))
+      where
+        good : Accepted I
+        good = accepted limits k (d .promised)
+
+    pub root-classes : (r : List (List ℕ)) → r ≡ componentRelations I i needed
+        → classNames (getD r (t .nodecount - 1) []) (getD (t .states) i 0) ≡ componentClasses I i
+    root-classes r e =
+        let a = relation-at (table I i) (wholeWords (table I i)) (k .nodes) needed (d .promised .nodeCount .1) root root-lt root-needed in
+        rw (e, nodecount-is t k d, ← table-states t k d i, a)
+        (root-names (table I i) (wholeWords (table I i)) (k .nodes) small)

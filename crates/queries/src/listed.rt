@@ -2,6 +2,7 @@
 use cursor::Refusal;
 use entry_queries::Written;
 use instrument::Instrument;
+use marks::nodes::all_marks;
 use reader::Outcome;
 use text::Text;
 use verdict::Verdict;
@@ -10,6 +11,7 @@ ghost use lib.ListN.{length};
 ghost use Rattle.meaning.specs.File.Grammar.{Contents, instrumentOf};
 ghost use Rattle.meaning.specs.Reference.Answers.{fitting};
 ghost use Rattle.instrument.specs.Described.{Describes};
+ghost use Rattle.partitions.specs.Classes.{classesOf};
 ghost use Rattle.cursor.specs.Answers.{number};
 ghost use Rattle.text.specs.Texts.{textOf};
 ghost use Rattle.report.specs.Report.{judgementFrom};
@@ -17,12 +19,17 @@ ghost use Rattle.answers.specs.Outcomes.{judgement, verdictOf};
 ghost use Rattle.answers.specs.Listing.{listed, listingOutcome, listingText, refusalLine};
 ghost use Rattle.entry_queries.specs.Written.{Answered};
 
-// The lines on the instrument of an accepted file, with this verdict and stage: 13 alone.
-fn write_lines(t: Instrument, holds: bool, by_marks: bool, out: &mut [u8]) -> Written
-    requires { ⌜ ((k : Contents) × Describes t k) ⌝ }
-    ensures { λ r. ⌜ ((k : Contents) → Describes t k → Answered (fitting (length (now (out .entry))) (listingText (instrumentOf k) (judgementFrom holds «by_marks»))) r (now (out .entry)) (now (out .exit))) ⌝ }
+// The lines on the instrument of an accepted file, with the names of its classes, this verdict and stage: 13 alone.
+fn write_lines(
+    t: Instrument,
+    names: [[u8; 32]; 4],
+    holds: bool,
+    by_marks: bool,
+    out: &mut [u8],
+) -> Written
+    requires { ⌜ ((k : Contents) × Describes t k × (names ≡ classesOf (instrumentOf k))) ⌝ }
+    ensures { λ r. ⌜ ((k : Contents) → Describes t k → names ≡ classesOf (instrumentOf k) → Answered (fitting (length (now (out .entry))) (listingText (instrumentOf k) (judgementFrom holds «by_marks»))) r (now (out .entry)) (now (out .exit))) ⌝ }
 {
-    let names = partitions::all_classes(t);
     let merged = merging::merged_count(t, names);
     let full = combination::combined_count(t);
     let text = report::listing_text(t, names, holds, by_marks, merged, full);
@@ -34,16 +41,18 @@ fn write_lines(t: Instrument, holds: bool, by_marks: bool, out: &mut [u8]) -> Wr
     Written::Entries(n)
 }
 
-// The same with its own verdict: 14, 12, then 13.
+// The same with its own verdict, from marks and names that are asked for once: 14, 12, then 13.
 fn write_listing(t: Instrument, out: &mut [u8]) -> Written
     requires { ⌜ ((k : Contents) × Describes t k) ⌝ }
     ensures { λ r. ⌜ ((k : Contents) → Describes t k → Answered (listed (instrumentOf k) (length (now (out .entry))) (judgement (verdictOf (instrumentOf k)))) r (now (out .entry)) (now (out .exit))) ⌝ }
 {
-    match verdict::judge(t) {
+    let marks = all_marks(t);
+    let names = partitions::marked_classes(t, marks);
+    match verdict::judge_prepared(t, marks, names) {
         Verdict::Clash => Written::Refused(Refusal::Clash),
         Verdict::Oversized => Written::Refused(Refusal::MergedSize),
-        Verdict::Marks(holds) => write_lines(t, holds, true, out),
-        Verdict::Merged(holds) => write_lines(t, holds, false, out),
+        Verdict::Marks(holds) => write_lines(t, names, holds, true, out),
+        Verdict::Merged(holds) => write_lines(t, names, holds, false, out),
     }
 }
 

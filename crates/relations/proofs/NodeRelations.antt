@@ -1,11 +1,15 @@
--- The rule that a node's kind picks, applied to the relations and marks of its operands, gives the relation of its formula.
-use mathlib.Core.Path.{_≡_, refl, ap, _∙_}
+-- The rule that a node's kind picks, applied to the relations and marks of its operands, gives the relation of its formula; the nodes one after
+-- the other, those that are not needed left out.
+use mathlib.Core.Path.{_≡_, refl, sym, subst, ap, _∙_}
+use mathlib.Core.Bool.{Bool, true, false, cond}
 use mathlib.Core.List.{List, [], _∷_}
+use lib.Dec.{T}
 use lib.ListN.{length, getD, set, replicate, length-replicate}
-use lib.Seq.{sets}
+use lib.Seq.{sets, set-getD}
 use native.Mathlib.Nat.{zero-add}
 use native.Mathlib.Omega.{arith}
 use Prim.Native.Nat.{ℕ, suc, _+_, _-_, _≤_, _<_}
+use Rattle.words.specs.Sets.{has}
 use Rattle.meaning.specs.Formula.{Formula}
 use Rattle.meaning.specs.Nodes.{Node, top, atom, neg, or, ex, eg, eu, Operand, of-neg, of-or-l, of-or-r, of-ex, of-eg, of-eu-l, of-eu-r}
 use Rattle.meaning.specs.Nodes.{nodeAt, formulaOf, formulaAt}
@@ -21,11 +25,12 @@ use Rattle.marks.specs.declared.Mark.{Mark}
 use Rattle.marks.specs.Formulas.{formulaMark}
 use Rattle.marks.specs.NodeMarks.{noMark, Listing}
 use Rattle.marks.specs.Written.{Written}
-use Rattle.marks.proofs.Written.{written-start, written-end, join-list, singles-more}
+use Rattle.marks.proofs.Written.{written-start, written-end, join-list, singles-more, singles-past}
+use Rattle.subformulas.specs.Under.{Closed}
 use Rattle.classes.specs.Related.{relatedAll}
 use Rattle.classes.proofs.Formulas.{top-rows, or-rows, ex-rows, eg-rows, eu-rows}
 use Rattle.relations.specs.Relations.{formulaRelation, signalRelation, comparing, noRelation, kindRelation, ruleRelation}
-use Rattle.relations.specs.Relations.{Marked, listRelations, RelatedNodes, Relating}
+use Rattle.relations.specs.Relations.{Marked, neededRelation, listRelations, RelatedNodes, Relating}
 
 -- no known kind
 pub kind-unknown : (states inputs : ℕ) (outputs outs succ compared : List ℕ) (kind w : ℕ) (mark under : Mark) (a b : List ℕ) → 7 ≤ kind
@@ -46,13 +51,26 @@ pub stored-at : {X : Type 0} (g : ℕ → X) (d : X) (l₀ : List X) (n k : ℕ)
 stored-at g d l₀ n k l h w j p =
     ap (λ l. getD l j d) (w .same ∙ ap (λ vs. sets l₀ 0 vs) (join-list g k)) ∙ front-at g d l₀ k h j p
 
--- the relation of a node among those of all nodes
-pub relation-at : (t : Table) (κ : View ℕ) (ns : List (Node ℕ)) → length ns ≤ 24 → (k : ℕ) → k < length ns
-    → getD (listRelations t κ ns) k [] ≡ formulaRelation t κ (formulaAt ns k)
+-- in an array that holds d alone from member k on, d is stored there already
+stored-kept : {X : Type 0} (g : ℕ → X) (d : X) (room n k : ℕ) (l : List X) → k < n → k ≤ room → d ≡ g k
+    → Written (replicate room d) 0 n (λ k. g k ∷ []) k l → Written (replicate room d) 0 n (λ k. g k ∷ []) (k + 1) l
+stored-kept g d room n k l h m e w =
+    subst (λ l. Written (replicate room d) 0 n (λ k. g k ∷ []) (k + 1) l)
+    (ap (λ v. set l k v) (sym (singles-past g d room n k l m w k (omega arith))) ∙ set-getD l k d)
+    (singles-more g (replicate room d) n k l d h e w)
+
+taken : {X : Type 0} (b : Bool) (x y : X) → T b → cond b x y ≡ x
+taken true x y h = refl
+taken false x y h = absurd h
+
+-- the relation of a needed node among those of all nodes
+pub relation-at : (t : Table) (κ : View ℕ) (ns : List (Node ℕ)) (needed : ℕ) → length ns ≤ 24 → (k : ℕ) → k < length ns → T (has needed k)
+    → getD (listRelations t κ ns needed) k [] ≡ formulaRelation t κ (formulaAt ns k)
 unfolding listRelations
-relation-at t κ ns short k l =
-    front-at (λ k. formulaRelation t κ (formulaAt ns k)) [] (replicate 24 noRelation) (length ns)
+relation-at t κ ns needed short k l h =
+    front-at (neededRelation t κ ns needed) [] (replicate 24 noRelation) (length ns)
     (omega (arith, length-replicate 24 noRelation)) k l
+    ∙ taken (has needed k) (formulaRelation t κ (formulaAt ns k)) noRelation h
 
 module _ (n : ℕ) (m : n ≤ 32) (ins outputs outs succ compared : List ℕ) where
   abbrev t : Table
@@ -94,49 +112,73 @@ module _ (n : ℕ) (m : n ≤ 32) (ins outputs outs succ compared : List ℕ) wh
       (l : Listing nodes count ns)
       (marks : List Mark)
       (marked : Marked t κ ns marks)
+      (needed : ℕ)
+      (closed : Closed ns needed)
     where
       abbrev relationAt : ℕ → List ℕ
-      relationAt k = rowsOf (formulaAt ns k)
+      relationAt = neededRelation t κ ns needed
 
-      node-formula : (k : ℕ) (r : List (List ℕ)) → k < count → Written (replicate 24 noRelation) 0 count (λ k. relationAt k ∷ []) k r
+      needed-at : (k : ℕ) → T (has needed k) → relationAt k ≡ rowsOf (formulaAt ns k)
+      needed-at k h = taken (has needed k) (rowsOf (formulaAt ns k)) noRelation h
+
+      node-formula : (k : ℕ) (r : List (List ℕ)) → k < count → T (has needed k)
+          → Written (replicate 24 noRelation) 0 count (λ k. relationAt k ∷ []) k r
           → ruleRelation n (length ins) outputs outs succ compared (getD nodes k (nodeOf top)) (getD marks k noMark) marks r ≡ relationAt k
-      node-formula k r h w =
-          rw (l .at k, formula-at ns (l .earlier) k)
+      node-formula k r h m w =
+          rw (l .at k, needed-at k m, formula-at ns (l .earlier) k)
           (kind-formula (formulaAt ns) (λ i. getD marks i noMark) (λ i. getD r i []) (nodeAt ns k)
           (λ i o. marked .each i (omega (arith, l .earlier k i o, l .long)))
           (λ i o. stored-at relationAt [] (replicate 24 noRelation) count k r
-          (omega (arith, length-replicate 24 noRelation, l .long, l .room)) w i (l .earlier k i o))
+          (omega (arith, length-replicate 24 noRelation, l .long, l .room)) w i (l .earlier k i o) ∙ needed-at i (closed .operands k i m o))
           (getD marks k noMark) (marked .each k (omega (arith, l .long)) ∙ ap markOf (formula-at ns (l .earlier) k)))
 
 -- the loop over the nodes
-module _ (states inputs : ℕ) (outputs outs succ compared : List ℕ) (nodes : List stored.Node) (count : ℕ) (marks : List Mark) where
-  abbrev Related : ℕ → List (List ℕ) → Type 0
-  Related k r = Relating states inputs outputs outs succ compared nodes count marks k r
+module _
+    (states inputs : ℕ)
+    (outputs outs succ compared : List ℕ)
+    (nodes : List stored.Node)
+    (count : ℕ)
+    (marks : List Mark)
+    (needed : ℕ)
+  where
+    abbrev Related : ℕ → List (List ℕ) → Type 0
+    Related k r = Relating states inputs outputs outs succ compared nodes count marks needed k r
 
-  abbrev tableBy : List ℕ → Table
-  tableBy ins = fromWords states ins outputs outs succ
+    abbrev relationBy : List ℕ → List (Node ℕ) → ℕ → List ℕ
+    relationBy ins ns = let t = fromWords states ins outputs outs succ in neededRelation t (comparing compared t) ns needed
 
-  pub relating-start : Related 0 (replicate 24 noRelation)
-  relating-start = record { reached = omega arith; each = λ ins e ns l q. written-start (replicate 24 noRelation) 0 count _ }
+    pub relating-start : Related 0 (replicate 24 noRelation)
+    relating-start = record { reached = omega arith; each = λ ins e ns l c q. written-start (replicate 24 noRelation) 0 count _ }
 
-  pub relating-more : states ≤ 32 → (k : ℕ) (r : List (List ℕ)) (v : List ℕ) → k < count
-      → v ≡ ruleRelation states inputs outputs outs succ compared (getD nodes k (nodeOf top)) (getD marks k noMark) marks r
-      → Related k r → Related (k + 1) (set r k v)
-  relating-more m k r v h e s =
-      record {
-        reached = omega arith;
-        each =
-            λ ins q ns l p.
-            singles-more (λ k. formulaRelation (tableBy ins) (comparing compared (tableBy ins)) (formulaAt ns k))
-            (replicate 24 noRelation) count k r v h
-            (rw (← q) at e ∙ node-formula states m ins outputs outs succ compared nodes count ns l marks p k r h (s .each ins q ns l p))
-            (s .each ins q ns l p);
-      }
+    -- node k is needed: its relation is stored
+    pub relating-in : states ≤ 32 → (k : ℕ) (r : List (List ℕ)) (v : List ℕ) → k < count → true ≡ has needed k
+        → v ≡ ruleRelation states inputs outputs outs succ compared (getD nodes k (nodeOf top)) (getD marks k noMark) marks r
+        → Related k r → Related (k + 1) (set r k v)
+    relating-in m k r v h i e s =
+        record {
+          reached = omega arith;
+          each =
+              λ ins q ns l c p.
+              singles-more (relationBy ins ns) (replicate 24 noRelation) count k r v h
+              (rw (← q) at e
+              ∙ node-formula states m ins outputs outs succ compared nodes count ns l marks p needed c k r h (subst T i tt) (s .each ins q ns l c p))
+              (s .each ins q ns l c p);
+        }
 
-  pub relating-end : (k : ℕ) (r : List (List ℕ)) → count ≡ k → Related k r
-      → RelatedNodes states inputs outputs outs succ compared nodes count marks r
-  unfolding listRelations
-  relating-end k r e s ins q ns l p =
-      let g : ℕ → List ℕ = λ k. formulaRelation (tableBy ins) (comparing compared (tableBy ins)) (formulaAt ns k) in
-      written-end (replicate 24 noRelation) 0 count (λ k. g k ∷ []) k r e (s .each ins q ns l p)
-      ∙ ap (λ vs. sets (replicate 24 noRelation) 0 vs) (join-list g count ∙ ap (λ n. listBelow n g) (l .long))
+    -- it is not: nothing changes
+    pub relating-out : (k : ℕ) (r : List (List ℕ)) → k < count → false ≡ has needed k → Related k r → Related (k + 1) r
+    relating-out k r h i s =
+        record {
+          reached = omega arith;
+          each =
+              λ ins q ns l c p.
+              stored-kept (relationBy ins ns) noRelation 24 count k r h (omega (arith, l .long, l .room)) (rw (← i) refl) (s .each ins q ns l c p);
+        }
+
+    pub relating-end : (k : ℕ) (r : List (List ℕ)) → count ≡ k → Related k r
+        → RelatedNodes states inputs outputs outs succ compared nodes count marks needed r
+    unfolding listRelations
+    relating-end k r e s ins q ns l c p =
+        let g : ℕ → List ℕ = relationBy ins ns in
+        written-end (replicate 24 noRelation) 0 count (λ k. g k ∷ []) k r e (s .each ins q ns l c p)
+        ∙ ap (λ vs. sets (replicate 24 noRelation) 0 vs) (join-list g count ∙ ap (λ n. listBelow n g) (l .long))

@@ -29,8 +29,8 @@ marked-list t ns short =
     mark k = formulaMark t (wholeWords t) (formulaAt ns k)
 
 -- the relations of a component's table from those of the table of its parts
-pub parts-related : (p t : Table) → p ≡ t → (ns : List (Node ℕ)) → length ns ≤ 24 → (marks : List Mark) (r : List (List ℕ))
-    → (Marked p (wholeWords p) ns marks → r ≡ listRelations p (wholeWords p) ns) → marks ≡ listMarks t ns
-    → r ≡ listRelations t (wholeWords t) ns
-parts-related p t e ns short marks r h q =
-    h (rw (q ∙ ap (λ t. listMarks t ns) (sym e)) (marked-list p ns short)) ∙ ap (λ t. listRelations t (wholeWords t) ns) e
+pub parts-related : (p t : Table) → p ≡ t → (ns : List (Node ℕ)) → length ns ≤ 24 → (marks : List Mark) (needed : ℕ) (r : List (List ℕ))
+    → (Marked p (wholeWords p) ns marks → r ≡ listRelations p (wholeWords p) ns needed) → marks ≡ listMarks t ns
+    → r ≡ listRelations t (wholeWords t) ns needed
+parts-related p t e ns short marks needed r h q =
+    h (rw (q ∙ ap (λ t. listMarks t ns) (sym e)) (marked-list p ns short)) ∙ ap (λ t. listRelations t (wholeWords t) ns needed) e

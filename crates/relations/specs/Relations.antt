@@ -1,10 +1,12 @@
--- The relation of a component's states at every node of a formula, as rows of words (document 01, Classes): the rule that a node's kind
--- picks, and all nodes one after the other. What is compared of the outputs is a list of its own: document 01 compares whole output words.
+-- The relation of a component's states at the needed nodes of a formula, as rows of words (document 01, Classes): the rule that a node's kind
+-- picks, and the nodes one after the other. What is compared of the outputs is a list of its own: document 01 compares whole output words.
 use mathlib.Core.Path.{_≡_}
+use mathlib.Core.Bool.{cond}
 use mathlib.Core.List.{List, [], _∷_}
 use lib.ListN.{length, getD, replicate}
 use lib.Seq.{sets}
 use Prim.Native.Nat.{ℕ, zero, suc, _≤_, _<_}
+use Rattle.words.specs.Sets.{has}
 use Rattle.meaning.specs.Formula.{Formula, atom}
 use Rattle.meaning.specs.Nodes as formula
 use Rattle.meaning.specs.Nodes.{formulaAt}
@@ -22,6 +24,7 @@ use Rattle.marks.specs.declared.Mark.{Mark}
 use Rattle.marks.specs.Formulas.{formulaMark}
 use Rattle.marks.specs.NodeMarks.{noMark, Listing, listMarks}
 use Rattle.marks.specs.Written.{Written}
+use Rattle.subformulas.specs.Under.{Closed}
 use Rattle.classes.specs.Rows.{rows}
 use Rattle.classes.specs.Related.{relatedAll, relatedBoth, relatedEx, relatedFixed}
 
@@ -65,29 +68,33 @@ module _ (states inputs : ℕ) (outputs outs succ compared : List ℕ) where
 pub record Marked (t : Table) (κ : View ℕ) (ns : List (formula.Node ℕ)) (marks : List Mark) : Type 0 where
   pub each : (k : ℕ) → k < length ns → getD marks k noMark ≡ formulaMark t κ (formulaAt ns k)
 
--- the relation at each of a formula's nodes, none past the last one
-unfoldable pub listRelations : Table → View ℕ → List (formula.Node ℕ) → List (List ℕ)
-listRelations t κ ns = sets (replicate (limits .nodes) noRelation) 0 (listBelow (length ns) (λ k. formulaRelation t κ (formulaAt ns k)))
+-- the relation at node k of a formula if that is needed, none if it is not; needed nodes are a set, bit k for node k
+abbrev pub neededRelation : Table → View ℕ → List (formula.Node ℕ) → ℕ → ℕ → List ℕ
+neededRelation t κ ns needed k = cond (has needed k) (formulaRelation t κ (formulaAt ns k)) noRelation
 
--- the relations of a component at all nodes, whichever formula the array lists; inputs are counted, and may be any that many
-abbrev pub RelatedNodes : ℕ → ℕ → List ℕ → List ℕ → List ℕ → List ℕ → List Node → ℕ → List Mark → List (List ℕ) → Type 0
-RelatedNodes states inputs outputs outs succ compared nodes count marks r =
-    (ins : List ℕ) → length ins ≡ inputs → (ns : List (formula.Node ℕ)) → Listing nodes count ns
+-- the same at each of a formula's nodes, none past the last one
+unfoldable pub listRelations : Table → View ℕ → List (formula.Node ℕ) → ℕ → List (List ℕ)
+listRelations t κ ns needed = sets (replicate (limits .nodes) noRelation) 0 (listBelow (length ns) (neededRelation t κ ns needed))
+
+-- the relations of a component at the needed nodes, whichever formula the array lists; inputs are counted, and may be any that many
+abbrev pub RelatedNodes : ℕ → ℕ → List ℕ → List ℕ → List ℕ → List ℕ → List Node → ℕ → List Mark → ℕ → List (List ℕ) → Type 0
+RelatedNodes states inputs outputs outs succ compared nodes count marks needed r =
+    (ins : List ℕ) → length ins ≡ inputs → (ns : List (formula.Node ℕ)) → Listing nodes count ns → Closed ns needed
     → let t = fromWords states ins outputs outs succ in
-    Marked t (comparing compared t) ns marks → r ≡ listRelations t (comparing compared t) ns
+    Marked t (comparing compared t) ns marks → r ≡ listRelations t (comparing compared t) ns needed
 
--- how far a loop over the nodes is: the relations of the first k are there
-pub record Relating (states inputs : ℕ) (outputs outs succ compared : List ℕ) (nodes : List Node) (count : ℕ) (marks : List Mark) (k : ℕ)
-    (r : List (List ℕ)) : Type 0 where
+-- how far a loop over the nodes is: the relations of the needed ones among the first k are there
+pub record Relating (states inputs : ℕ) (outputs outs succ compared : List ℕ) (nodes : List Node) (count : ℕ) (marks : List Mark)
+    (needed k : ℕ) (r : List (List ℕ)) : Type 0 where
   pub reached : k ≤ count
-  pub each : (ins : List ℕ) → length ins ≡ inputs → (ns : List (formula.Node ℕ)) → Listing nodes count ns
+  pub each : (ins : List ℕ) → length ins ≡ inputs → (ns : List (formula.Node ℕ)) → Listing nodes count ns → Closed ns needed
       → let t = fromWords states ins outputs outs succ in
       Marked t (comparing compared t) ns marks
-      → Written (replicate (limits .nodes) noRelation) 0 count (λ k. formulaRelation t (comparing compared t) (formulaAt ns k) ∷ []) k r
+      → Written (replicate (limits .nodes) noRelation) 0 count (λ k. neededRelation t (comparing compared t) ns needed k ∷ []) k r
 
--- the relations of component c at all nodes, where whole output words are compared
-abbrev pub componentRelations : meaning.Instrument → ℕ → List (List ℕ)
-componentRelations I c = listRelations (table I c) (wholeWords (table I c)) (I .nodes)
+-- the relations of component c at the needed nodes, where whole output words are compared
+abbrev pub componentRelations : meaning.Instrument → ℕ → ℕ → List (List ℕ)
+componentRelations I c needed = listRelations (table I c) (wholeWords (table I c)) (I .nodes) needed
 
 -- the instrument describes a file's contents, and the marks are those of its component c
 pub record MarkedComponent (t : Instrument) (c : ℕ) (marks : List Mark) (k : Contents) : Type 0 where

@@ -8,6 +8,7 @@ use Rattle.meaning.specs.Reference.Verdict.{staged}
 use Rattle.answers.specs.Outcomes.{lookedUp, mostStates}
 use Rattle.meaning.specs.Verdict.{Answer, judged, clash, oversized, holds, fails, marks, merged}
 use Rattle.verdict.specs.declared.Verdict.{Verdict}
+use Rattle.verdict.specs.declared.Told as told
 use Rattle.verdict.specs.declared.Verdict.the-variants.{Marks, Merged, Clash, Oversized}
 
 -- by marks or by merged words: holds, or fails; 14; 12
@@ -18,6 +19,11 @@ answerOf (Merged true) = judged holds merged
 answerOf (Merged false) = judged fails merged
 answerOf Clash = clash
 answerOf Oversized = oversized
+
+-- what the marks tell, or else another answer
+abbrev pub orElse : told.Told → Answer → Answer
+orElse (told.the-variants.Verdict v) a = answerOf v
+orElse told.the-variants.Nothing a = a
 
 -- the answer where marks do not decide: 12, or whether every start is answered with true in the merged words
 abbrev pub mergedStage : Instrument → Answer

@@ -1,7 +1,10 @@
+use mathlib.Core.Path.{_≡_}
 use native.Mathlib.Omega.{arith}
-use Rattle.meaning.specs.File.Grammar.{instrumentOf}
+use Rattle.meaning.specs.File.Grammar.{Contents, instrumentOf}
+use Rattle.instrument.specs.Described.{Describes}
+use Rattle.partitions.specs.Classes.{classesOf}
 use Rattle.answers.specs.Listing.{listingText}
-use Rattle.report.specs.Report.{judgementFrom}
+use Rattle.report.specs.Report.{Listed, Spelled, judgementFrom}
 use Rattle.report.proofs.Copies.{listing-spelled, spelled-count}
 use Rattle.entry_queries.proofs.Answering.{too-short, written}
 use Rattle.queries.proofs.Lines.{lines-listed}
@@ -9,84 +12,58 @@ use borrow.Author.Needs.{needs}
 use Rattle.queries.proofs.listed.write_lines.Statement.{statement}
 use Rattle.queries.proofs.listed.write_lines.Tie as tie
 
-all-classes-requires : tie.Need-all-classes-requires
-all-classes-requires c κs = search needs
+-- what the text is made from, and that it is the listing's
+listed : (f : tie.After-combined-count) (k : Contents) → let a = f .before .before .before .args in
+    Describes (a .t) k → a .names ≡ classesOf (instrumentOf k) → Listed (a .t) (a .names) (f .before .merged-count .result) (f .combined-count .result) k
+listed f k d e =
+    let a = f .before .before .before .args in
+    lines-listed (a .t) k d (a .names) (f .before .merged-count .result) (f .combined-count .result) e (f .before .merged-count .ensures k d)
+    (f .combined-count .ensures k d)
 
-merged-count-requires : tie.Need-merged-count-requires
-merged-count-requires c κs = search needs
-
-combined-count-requires : tie.Need-combined-count-requires
-combined-count-requires c κs = search needs
+spelled : (g : tie.After-listing-text) (k : Contents) → let a = g .before .before .before .before .args in
+    Describes (a .t) k → a .names ≡ classesOf (instrumentOf k)
+    → Spelled (g .listing-text .result) (listingText (instrumentOf k) (judgementFrom (a .holds) (a .by-marks)))
+spelled g k d e =
+    let a = g .before .before .before .before .args in
+    listing-spelled k (d .promised) (judgementFrom (a .holds) (a .by-marks)) (g .listing-text .result)
+    (g .listing-text .ensures k (listed (g .before) k d e))
 
 listing-text-requires : tie.Need-listing-text-requires
-listing-text-requires c κs =
-    let f = c in
-    let (k, d) = f .before .before .before .before .pre in
-    let m = f .before in
-    let n = m .before in
-    let s = n .before .before in
-    let a = s .args in
-    let listed = lines-listed (a .t) k d (n .all-classes .result) (m .merged-count .result) (f .combined-count .result) (n .all-classes .ensures k d)
-    (m .merged-count .ensures k d) (f .combined-count .ensures k d) in
-    (k, listed)
+listing-text-requires c κs = let (k, d, e) = c .before .before .before .pre in (k, listed c k d e)
 
 returns : tie.Need-returns
 returns c =
-    λ k d.
+    λ k d e.
     let g = c .before in
-    let f = g .before in
-    let m = f .before in
-    let n = m .before in
-    let s = n .before .before in
-    let a = s .args in
-    let listed = lines-listed (a .t) k d (n .all-classes .result) (m .merged-count .result) (f .combined-count .result) (n .all-classes .ensures k d)
-    (m .merged-count .ensures k d) (f .combined-count .ensures k d) in
-    let j = judgementFrom (a .holds) (a .by-marks) in
-    let sp = listing-spelled k (d .promised) j (g .listing-text .result) (g .listing-text .ensures k listed) in
-    too-short (listingText (instrumentOf k) j) (a .out .now) (omega (arith, spelled-count _ _ sp))
+    let a = g .before .before .before .before .args in
+    too-short (listingText (instrumentOf k) (judgementFrom (a .holds) (a .by-marks))) (a .out .now) (omega (arith, spelled-count _ _ (spelled g k d e)))
 
 copy-text-requires : tie.Need-copy-text-requires
 copy-text-requires c κs =
     let g = c .before .before in
-    let f = g .before in
-    let (k, d) = f .before .before .before .before .pre in
-    let m = f .before in
-    let n = m .before in
-    let s = n .before .before in
-    let a = s .args in
-    let listed = lines-listed (a .t) k d (n .all-classes .result) (m .merged-count .result) (f .combined-count .result) (n .all-classes .ensures k d)
-    (m .merged-count .ensures k d) (f .combined-count .ensures k d) in
-    let j = judgementFrom (a .holds) (a .by-marks) in
-    ((listingText (instrumentOf k) j, listing-spelled k (d .promised) j (g .listing-text .result) (g .listing-text .ensures k listed)), omega arith)
-
-same-length : tie.Need-same-length
-same-length c = search needs
+    let s = g .before .before .before .before in
+    let (k, d, e) = s .pre in
+    ((listingText (instrumentOf k) (judgementFrom (s .args .holds) (s .args .by-marks)), spelled g k d e), omega arith)
 
 returns-2 : tie.Need-returns-2
 returns-2 c =
-    λ k d.
-    let g = c .before .before .before .before .before in
-    let f = g .before in
-    let m = f .before in
-    let n = m .before in
-    let s = n .before .before in
-    let a = s .args in
-    let listed = lines-listed (a .t) k d (n .all-classes .result) (m .merged-count .result) (f .combined-count .result) (n .all-classes .ensures k d)
-    (m .merged-count .ensures k d) (f .combined-count .ensures k d) in
-    let j = judgementFrom (a .holds) (a .by-marks) in
-    let sp = listing-spelled k (d .promised) j (g .listing-text .result) (g .listing-text .ensures k listed) in
-    written (listingText (instrumentOf k) j) (a .out .now) _ _ (spelled-count _ _ sp) (omega (arith, c .before .before .before .before .if1 .left, spelled-count _ _ sp))
-    (c .before .before .copy-text .ensures (listingText (instrumentOf k) j) sp)
+    λ k d e.
+    let w = c .before .before in
+    let i = w .before .before in
+    let g = i .before in
+    let a = g .before .before .before .before .args in
+    let l = listingText (instrumentOf k) (judgementFrom (a .holds) (a .by-marks)) in
+    let n = spelled-count _ _ (spelled g k d e) in
+    written l (a .out .now) _ _ n (omega (arith, i .if1 .left, n)) (w .copy-text .ensures l (spelled g k d e))
 
 pub write-lines-spec : {M : Type 1} → statement M
 write-lines-spec =
     tie.close
     (tie.spec
-    all-classes-requires
-    merged-count-requires
-    combined-count-requires
+    (λ c κs. search needs)
+    (λ c κs. search needs)
     listing-text-requires
     returns
     copy-text-requires
-    same-length
+    (λ c. search needs)
     returns-2)

@@ -1,9 +1,11 @@
-use mathlib.Core.Path.{sym, subst, ap, _∙_}
+use mathlib.Core.Path.{_≡_, sym, subst, ap, _∙_}
 use lib.ListN.{length}
-use Rattle.meaning.specs.File.Grammar.{instrumentOf}
+use Rattle.meaning.specs.File.Grammar.{Contents, instrumentOf}
 use Rattle.cursor.specs.declared.Refusal.the-variants.{Clash, MergedSize}
+use Rattle.instrument.specs.Described.{Describes}
+use Rattle.merged_words.specs.Prepared.{Prepared}
 use Rattle.verdict.specs.Answers.{answerOf}
-use Rattle.answers.specs.Outcomes.{judgement}
+use Rattle.answers.specs.Outcomes.{judgement, verdictOf}
 use Rattle.answers.specs.Listing.{listed}
 use Rattle.entry_queries.specs.declared.Written.the-variants.{Refused}
 use Rattle.entry_queries.specs.Written.{Answered}
@@ -13,47 +15,55 @@ use borrow.Author.Needs.{needs}
 use Rattle.queries.proofs.listed.write_listing.Statement.{statement}
 use Rattle.queries.proofs.listed.write_listing.Tie as tie
 
-judge-requires : tie.Need-judge-requires
-judge-requires c κs = search needs
+-- marks and names are the instrument's, and the verdict is its
+prepared : (n : tie.After-marked-classes) (k : Contents) → let a = n .before in
+    let t = a .before .before .args .t in
+    Describes t k → Prepared t (a .all-marks .result) (n .marked-classes .result) k
+prepared n k d =
+    let m = n .before .all-marks .ensures k d in
+    record { describes = d; marked = m; named = n .marked-classes .ensures k (record { describes = d; marked = m }) }
 
-enum-told : tie.Need-enum-told
-enum-told c = search needs
+judged : (v : tie.After-judge-prepared) (k : Contents) → Describes (v .before .before .before .before .args .t) k
+    → answerOf (v .judge-prepared .result) ≡ verdictOf (instrumentOf k)
+judged v k d = v .judge-prepared .ensures k (prepared (v .before) k d)
 
-enum-told-2 : tie.Need-enum-told-2
-enum-told-2 c = search needs
+marked-classes-requires : tie.Need-marked-classes-requires
+marked-classes-requires c κs =
+    let (k, d) = c .before .before .pre in
+    (k, record { describes = d; marked = c .all-marks .ensures k d })
 
-enum-known-holds : tie.Need-enum-known-holds
-enum-known-holds c = search needs
+judge-prepared-requires : tie.Need-judge-prepared-requires
+judge-prepared-requires c κs = let (k, d) = c .before .before .before .pre in (k, prepared c k d)
 
 write-lines-requires : tie.Need-write-lines-requires
-write-lines-requires c κs = search needs
-
-enum-known-holds-2 : tie.Need-enum-known-holds-2
-enum-known-holds-2 c = search needs
+write-lines-requires c κs =
+    let n = c .before .before .before .before .before in
+    let (k, d) = n .before .before .before .pre in
+    (k, d, prepared n k d .named)
 
 write-lines-requires-2 : tie.Need-write-lines-requires-2
-write-lines-requires-2 c κs = search needs
+write-lines-requires-2 c κs =
+    let n = c .before .before .before .before .before in
+    let (k, d) = n .before .before .before .pre in
+    (k, d, prepared n k d .named)
 
 returns : tie.Need-returns
 returns c =
     λ k d.
     let v = c .before .before in
-    let old = v .before .before .args .out .now in
+    let old = v .before .before .before .before .args .out .now in
     let I = instrumentOf k in
-    subst (λ a. Answered (listed I (length old) (judgement a)) (Refused Clash) old old) (ap answerOf (sym (c .enum-told .given .1)) ∙ v .judge .ensures k d)
+    subst (λ a. Answered (listed I (length old) (judgement a)) (Refused Clash) old old) (ap answerOf (sym (c .enum-told .given .1)) ∙ judged v k d)
     (listed-refused I (length old) Clash old)
 
 returns-2 : tie.Need-returns-2
 returns-2 c =
     λ k d.
     let v = c .before .before in
-    let old = v .before .before .args .out .now in
+    let old = v .before .before .before .before .args .out .now in
     let I = instrumentOf k in
-    subst (λ a. Answered (listed I (length old) (judgement a)) (Refused MergedSize) old old) (ap answerOf (sym (c .enum-told2 .given .1)) ∙ v .judge .ensures k d)
+    subst (λ a. Answered (listed I (length old) (judgement a)) (Refused MergedSize) old old) (ap answerOf (sym (c .enum-told2 .given .1)) ∙ judged v k d)
     (listed-refused I (length old) MergedSize old)
-
-same-length : tie.Need-same-length
-same-length c = search needs
 
 returns-3 : tie.Need-returns-3
 returns-3 c =
@@ -61,14 +71,10 @@ returns-3 c =
     let w = c .before .before in
     let h = w .before .before .before in
     let v = h .before .before in
-    let old = v .before .before .args .out .now in
-    let I = instrumentOf k in
-    listed-same I (length old)
-    (by-marks (h .holds .given .0 .0) ∙ ap (λ v. judgement (answerOf v)) (sym (h .holds .given .1)) ∙ ap judgement (v .judge .ensures k d))
-    (w .write-lines .ensures k d)
-
-same-length-2 : tie.Need-same-length-2
-same-length-2 c = search needs
+    let old = v .before .before .before .before .args .out .now in
+    listed-same (instrumentOf k) (length old)
+    (by-marks (h .holds .given .0 .0) ∙ ap (λ v. judgement (answerOf v)) (sym (h .holds .given .1)) ∙ ap judgement (judged v k d))
+    (w .write-lines .ensures k d (prepared (v .before) k d .named))
 
 returns-4 : tie.Need-returns-4
 returns-4 c =
@@ -76,26 +82,27 @@ returns-4 c =
     let w = c .before .before in
     let h = w .before .before .before in
     let v = h .before .before in
-    let old = v .before .before .args .out .now in
-    let I = instrumentOf k in
-    listed-same I (length old)
-    (by-merging (h .holds2 .given .0 .0) ∙ ap (λ v. judgement (answerOf v)) (sym (h .holds2 .given .1)) ∙ ap judgement (v .judge .ensures k d))
-    (w .write-lines2 .ensures k d)
+    let old = v .before .before .before .before .args .out .now in
+    listed-same (instrumentOf k) (length old)
+    (by-merging (h .holds2 .given .0 .0) ∙ ap (λ v. judgement (answerOf v)) (sym (h .holds2 .given .1)) ∙ ap judgement (judged v k d))
+    (w .write-lines2 .ensures k d (prepared (v .before) k d .named))
 
 pub write-listing-spec : {M : Type 1} → statement M
 write-listing-spec =
     tie.close
     (tie.spec
-    judge-requires
-    enum-told
-    enum-told-2
-    enum-known-holds
+    (λ c κs. search needs)
+    marked-classes-requires
+    judge-prepared-requires
+    (λ c. search needs)
+    (λ c. search needs)
+    (λ c. search needs)
     write-lines-requires
-    enum-known-holds-2
+    (λ c. search needs)
     write-lines-requires-2
     returns
     returns-2
-    same-length
+    (λ c. search needs)
     returns-3
-    same-length-2
+    (λ c. search needs)
     returns-4)

@@ -4,9 +4,9 @@ use Prim.Native.Nat.{zero-le}
 use Rattle.words.specs.Sets.{insert}
 use borrow.Author.Needs.{needs}
 use Rattle.instrument.proofs.Nodes.{past}
-use Rattle.merged.proofs.Reaching.{unknown-more}
-use Rattle.merged.proofs.under.with_operands.Statement.{statement}
-use Rattle.merged.proofs.under.with_operands.Tie as tie
+use Rattle.subformulas.proofs.Reaching.{unknown-more}
+use Rattle.subformulas.proofs.with_operands.Statement.{statement}
+use Rattle.subformulas.proofs.with_operands.Tie as tie
 
 insert-requires : tie.Need-insert-requires
 insert-requires c κs = omega (arith, c .before .pre .left (omega (arith, c .match .keys3)))

@@ -1,10 +1,9 @@
-// The nodes whose truth stands in a merged word: the root and the nodes under it (document 01, Merged tables).
+// The nodes that a root needs: itself and the nodes under it, as a set, bit k for node k. specs/Under.antt defines the result.
 ghost use mathlib.Core.Path.{_≡_};
 ghost use Rattle.meaning.specs.File.Grammar.{Contents, instrumentOf};
 ghost use Rattle.instrument.specs.Described.{Describes};
 ghost use Rattle.marks.specs.NodeMarks.{Operands};
-ghost use Rattle.merged.specs.Words.{underRoot};
-ghost use Rattle.merged.specs.Under.{withOperands};
+ghost use Rattle.subformulas.specs.Under.{underRoot, withOperands};
 use instrument::Instrument;
 use instrument::Node;
 

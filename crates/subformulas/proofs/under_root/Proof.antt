@@ -7,10 +7,10 @@ use Rattle.instrument.specs.Described.{Describes}
 use Rattle.instrument.proofs.Bounds.{node-bounds}
 use Rattle.marks.proofs.NodeMarks.{operands-listed}
 use Rattle.marks.proofs.Parts.{listing}
-use Rattle.merged.specs.Under.{Reaching}
-use Rattle.merged.proofs.Root.{root-start, root-in, root-out, root-end}
-use Rattle.merged.proofs.under.under_root.Statement.{statement}
-use Rattle.merged.proofs.under.under_root.Tie as tie
+use Rattle.subformulas.specs.Under.{Reaching}
+use Rattle.subformulas.proofs.Root.{root-start, root-in, root-out, root-end}
+use Rattle.subformulas.proofs.under_root.Statement.{statement}
+use Rattle.subformulas.proofs.under_root.Tie as tie
 
 abbrev Inv-loop : tie.InvT-loop
 Inv-loop t k₀ set₀ k set =

@@ -1,7 +1,6 @@
 -- One way down from the root finds it and the nodes under it: the start, one node, the end.
-use mathlib.Core.Path.{_≡_, refl, sym, subst, ap}
+use mathlib.Core.Path.{_≡_, refl, subst, ap}
 use mathlib.Core.Logic.{_⊎_, _↔_, inl, inr}
-use mathlib.Core.Bool.{Bool}
 use mathlib.Core.List.{List}
 use lib.Dec.{T}
 use lib.ListN.{length}
@@ -11,14 +10,13 @@ use native.Mathlib.Omega.{arith}
 use Prim.Native.Nat.{ℕ, zero, suc, _-_, _^_, _≤_, _<_}
 use Rattle.words.specs.Sets.{has, insert, built}
 use Rattle.words.proofs.Members.{has-none, has-insert, insert-iff, same-members}
-use Rattle.words.proofs.Built.{has-built, has-built-lt, built-lt}
+use Rattle.words.proofs.Built.{built-lt}
 use Rattle.meaning.specs.Nodes.{Node, top, atom, neg, or, ex, eg, eu, nodeAt, Operand, of-neg, of-or-l, of-or-r, of-ex, of-eg, of-eu-l, of-eu-r}
 use Rattle.meaning.specs.Nodes.{Beneath, through, Earlier}
-use Rattle.meaning.specs.Reference.Nodes.{beneathB}
 use Rattle.meaning.proofs.Basic.Booleans.{test-eq}
-use Rattle.meaning.proofs.File.Nodes.{beneath-in, beneath-out, beneath-le}
 use Rattle.instrument.proofs.Nodes.{nodeBy}
-use Rattle.merged.specs.Under.{withOperands, Reaching}
+use Rattle.subformulas.specs.Under.{withOperands, Reaching}
+use Rattle.subformulas.proofs.Members.{beneath, beneath-operand, set-in, set-out}
 
 -- which numbers are operands
 abbrev Among : Node ℕ → ℕ → Type 0
@@ -101,11 +99,6 @@ module _ (nodes : List (Node ℕ)) (earlier : Earlier nodes) (root : ℕ) (last 
       only : (j : ℕ) → T (has (insert 0 root) j) → root ≡ j
       only j h = elim (insert-iff 0 root j .0 h) [ inl a ↦ absurd (subst T (has-none j) a) | inr e ↦ e ]
 
-  -- an operand of a node under the root is under it
-  beneath-operand : (j i k : ℕ) → Beneath nodes i k → Operand j (nodeAt nodes i) → Beneath nodes j k
-  beneath-operand j i k Beneath.itself o = through o Beneath.itself
-  beneath-operand j i k (through {i = h} q b) o = through q (beneath-operand j i h b o)
-
   module _ (k set : ℕ) (some : 0 < k) (s : Reaching nodes root k set) where
     -- node k - 1 is in the set: its operands are put in
     pub reaching-in : (k₁ more : ℕ) → k ≡ suc k₁ → T (has set k₁)
@@ -116,7 +109,7 @@ module _ (nodes : List (Node ℕ)) (earlier : Earlier nodes) (root : ℕ) (last 
           begun = iff root .1 (inl (s .begun));
           under =
               λ j h.
-              elim (iff j .0 h) [ inl a ↦ s .under j a | inr o ↦ beneath-operand j k₁ root (s .under k₁ m) o ];
+              elim (iff j .0 h) [ inl a ↦ s .under j a | inr o ↦ beneath-operand nodes j k₁ root (s .under k₁ m) o ];
           closed =
               λ j i l h o.
               elim (ℕ-discrete j k₁) [
@@ -149,24 +142,14 @@ module _ (nodes : List (Node ℕ)) (earlier : Earlier nodes) (root : ℕ) (last 
   all-under set s j k Beneath.itself h = h
   all-under set s j k (through {i = i} o b) h = all-under set s j i b (s .closed k i (omega arith) h o)
 
-  pub reaching-end : (set : ℕ) → set < 2 ^ 32 → length nodes ≤ 32 → Reaching nodes root 0 set
-      → set ≡ built (length nodes) (λ j. beneathB nodes (suc root) j root)
+  pub reaching-end : (set : ℕ) → set < 2 ^ 32 → length nodes ≤ 32 → Reaching nodes root 0 set → set ≡ built (length nodes) (beneath nodes root)
   reaching-end set small few s =
-      same-members 32 set (built (length nodes) f) small wide (λ j l. test-eq (has set j) (has (built (length nodes) f) j) (into j) (out j))
+      same-members 32 set under small wide (λ j l.
+      test-eq (has set j) (has under j) (λ h. set-in nodes earlier root last j (s .under j h)) (λ h.
+      all-under set s j root (set-out nodes root j h) (s .begun)))
     where
-      f : ℕ → Bool
-      f j = beneathB nodes (suc root) j root
+      under : ℕ
+      under = built (length nodes) (beneath nodes root)
 
-      wide : built (length nodes) f < 2 ^ 32
-      wide = omega (arith, built-lt (length nodes) f, pow-mono few)
-
-      into : (j : ℕ) → T (has set j) → T (has (built (length nodes) f) j)
-      into j h =
-          let b = s .under j h in
-          subst T (sym (has-built (length nodes) f j (omega (arith, beneath-le nodes earlier j root b, last))))
-          (beneath-in nodes earlier (suc root) j root (omega arith) b)
-
-      out : (j : ℕ) → T (has (built (length nodes) f) j) → T (has set j)
-      out j h =
-          let l = has-built-lt (length nodes) f j h in
-          all-under set s j root (beneath-out nodes (suc root) j root (subst T (has-built (length nodes) f j l) h)) (s .begun)
+      wide : under < 2 ^ 32
+      wide = omega (arith, built-lt (length nodes) (beneath nodes root), pow-mono few)

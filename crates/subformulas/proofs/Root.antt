@@ -15,9 +15,8 @@ use Rattle.instrument.specs.Layout.{nodeOf}
 use Rattle.instrument.specs.Described.{Describes}
 use Rattle.instrument.proofs.Nodes.{node-of}
 use Rattle.instrument.proofs.Places.{nodecount-is}
-use Rattle.merged.specs.Words.{underRoot}
-use Rattle.merged.specs.Under.{withOperands, Reaching}
-use Rattle.merged.proofs.Reaching.{operands-more, reaching-start, reaching-in, reaching-out, reaching-end}
+use Rattle.subformulas.specs.Under.{underRoot, withOperands, Reaching}
+use Rattle.subformulas.proofs.Reaching.{operands-more, reaching-start, reaching-in, reaching-out, reaching-end}
 
 module _ (t : Instrument) (c : Contents) (d : Describes t c) where
   abbrev root : ℕ

@@ -1,0 +1,5 @@
+-- Which nodes are in the set
+pub mod Members
+-- The way down from the root
+pub mod Reaching
+pub mod Root
