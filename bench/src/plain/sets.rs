@@ -24,9 +24,12 @@ pub fn union(x: &Set, y: &Set) -> Set {
     std::array::from_fn(|j| x[j] | y[j])
 }
 
+pub fn difference(x: &Set, y: &Set) -> Set {
+    std::array::from_fn(|j| x[j] & !y[j])
+}
+
 pub fn complement(n: usize, x: &Set) -> Set {
-    let all = below(n);
-    std::array::from_fn(|j| all[j] & !x[j])
+    difference(&below(n), x)
 }
 
 /// The lowest member of `a` that is not one of `b`.
