@@ -51,6 +51,16 @@ fn told_apart(count: usize) -> Vec<Node> {
     nodes
 }
 
+/// The same where the root, an or of all, needs every node.
+fn needed() -> Vec<Node> {
+    let mut nodes = told_apart(8);
+    while nodes.len() < 24 {
+        let last = nodes.len() - 1;
+        nodes.extend([Node::Eu(last / 2 % 4, 6), Node::Or(last, last + 1)]);
+    }
+    nodes
+}
+
 /// Nodes that no root needs: the root is true.
 fn unneeded() -> Vec<Node> {
     let mut nodes = told_apart(23);
@@ -73,6 +83,8 @@ pub fn inputs() -> Vec<Input> {
         let name = format!("chains 4 x {states}, relations of EU, {count} nodes");
         add(name, [states; 4], true, told_apart(count));
     }
+    let name = "chains 4 x 32, relations of EU, 24 nodes needed".to_string();
+    add(name, [32; 4], true, needed());
     let name = "chains 32 x 32 x 2 x 2, 4,096 merged states".to_string();
     add(name, [32, 32, 2, 2], true, told_apart(24));
     add("chains 4 x 32, root true, 23 nodes unneeded".to_string(), [32; 4], true, unneeded());

@@ -28,7 +28,16 @@ pub fn both(a: &Relation, b: &Relation) -> Relation {
     std::array::from_fn(|x| a[x] & b[x])
 }
 
-/// The rule of EX, EG and EU by a relation and the states that are live, those that are not FAIL.
+/// The converse relation.
+fn converse(table: &Table, rows: &Relation) -> Relation {
+    let mut columns = [0; 32];
+    for (x, &row) in rows[..table.states].iter().enumerate() {
+        members(row).for_each(|y| columns[y] |= 1 << x);
+    }
+    columns
+}
+
+/// The rule of EX, EG and EU, where the live states are those that are not FAIL.
 struct Rule<'a> {
     table: &'a Table,
     mark: Mark,
@@ -36,43 +45,52 @@ struct Rule<'a> {
 }
 
 impl Rule<'_> {
-    /// Whether on every assignment each live successor of either state has a related one of the
-    /// other.
-    fn matched(&self, related: &Relation, x: usize, y: usize) -> bool {
-        let (own, other) = (self.table.row(x), self.table.row(y));
-        own.iter().zip(other).all(|(&w, &v)| {
-            let mut union = 0;
-            for u in members(w) {
-                let row = related[u];
-                union |= row;
-                if self.live >> u & 1 == 1 && row & v == 0 {
-                    return false;
+    /// Of the states in `among` those of which, on every assignment, each live successor has a
+    /// related successor of x.
+    fn matched(&self, related: &Relation, x: usize, among: u32) -> u32 {
+        let mut kept = among;
+        for (a, &w) in self.table.row(x).iter().enumerate() {
+            if kept == 0 {
+                break;
+            }
+            let missed = self.live & !members(w).fold(0, |union, u| union | related[u]);
+            if missed != 0 {
+                for y in members(kept) {
+                    if self.table.row(y)[a] & missed != 0 {
+                        kept &= !(1 << y);
+                    }
                 }
             }
-            v & self.live & !union == 0
-        })
+        }
+        kept
     }
 
-    /// Of the states in `among` those for which the rule fails beside x.
-    fn failed(&self, related: &Relation, x: usize, among: u32) -> u32 {
+    /// The states that are PASS with x, or FAIL with x.
+    fn same_mark(&self, x: usize) -> u32 {
         let with = |set: u32| if set >> x & 1 == 1 { set } else { 0 };
-        let mut failed = 0;
-        for y in members(among & !with(self.mark.pass) & !with(self.mark.fail)) {
-            let same = self.table.words[x] == self.table.words[y];
-            if !same || !self.matched(related, x, y) {
-                failed |= 1 << y;
-            }
-        }
-        failed
+        with(self.mark.pass) | with(self.mark.fail)
+    }
+
+    /// Of the states in `among` those with the outputs of x.
+    fn same_outputs(&self, x: usize, among: u32) -> u32 {
+        let words = &self.table.words;
+        members(among).filter(|&y| words[x] == words[y]).fold(0, |set, y| set | 1 << y)
     }
 }
 
 /// The relation of EX: what the operand relates and the rule by it keeps.
 pub fn ex(table: &Table, operand: &Relation, mark: Mark, operand_fail: u32) -> Relation {
-    let rule = Rule { table, mark, live: !operand_fail };
+    let rule = Rule { table, mark, live: table.all() & !operand_fail };
+    let opposite = converse(table, operand);
+    let columns = std::array::from_fn(|x| match x < table.states {
+        true => rule.matched(&opposite, x, opposite[x]),
+        false => 0,
+    });
+    let forth = converse(table, &columns);
     let mut rows = *operand;
     for (x, row) in rows[..table.states].iter_mut().enumerate() {
-        *row &= !rule.failed(operand, x, *row);
+        let back = rule.matched(operand, x, *row);
+        *row &= rule.same_mark(x) | rule.same_outputs(x, forth[x] & back);
     }
     rows
 }
@@ -95,10 +113,11 @@ fn next(set: u32, last: usize) -> usize {
     (if above != 0 { above } else { set }).trailing_zeros() as usize
 }
 
-/// The relation of EG and EU: the largest inside the operands' that keeps the rule by itself. A pair
-/// that fails goes out; only pairs with a successor of each state in such a pair are looked at again.
+/// The relation of EG and EU: the largest inside the operands', which is symmetric, that keeps the rule
+/// by itself. A pair that fails goes out both ways; only pairs with successors in such a pair are looked
+/// at again.
 pub fn fixed(table: &Table, operands: &Relation, mark: Mark) -> Relation {
-    let rule = Rule { table, mark, live: !mark.fail };
+    let rule = Rule { table, mark, live: table.all() & !mark.fail };
     let before = predecessors(table);
     let mut rows = *operands;
     let mut again = rows;
@@ -107,12 +126,20 @@ pub fn fixed(table: &Table, operands: &Relation, mark: Mark) -> Relation {
     while left != 0 {
         x = next(left, x);
         left &= !(1 << x);
-        let failed = rule.failed(&rows, x, std::mem::take(&mut again[x]));
-        if failed != 0 {
-            rows[x] &= !failed;
-            let others = members(failed).fold(0, |all, y| all | before[y]);
+        let looked = again[x] & !rule.same_mark(x);
+        let failed = looked & !rule.matched(&rows, x, rule.same_outputs(x, looked));
+        again[x] = 0;
+        rows[x] &= !failed;
+        let mut others = 0;
+        for y in members(failed) {
+            rows[y] &= !(1 << x);
+            again[y] &= !(1 << x);
+            others |= before[y];
+        }
+        if others != 0 {
             members(before[x]).for_each(|z| again[z] |= others & rows[z]);
-            left |= before[x];
+            members(others).for_each(|z| again[z] |= before[x] & rows[z]);
+            left |= before[x] | others;
         }
     }
     rows

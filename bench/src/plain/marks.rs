@@ -9,24 +9,35 @@ pub struct Mark {
     pub fail: u32,
 }
 
-/// The states that on every assignment, or else on some, have a successor in the set.
-fn preimage(table: &Table, set: u32, every: bool) -> u32 {
+/// Whether a state's successor sets, one for each assignment, meet a set as they have to.
+type Meeting = fn(&[u32], u32) -> bool;
+
+/// On every assignment.
+fn always(row: &[u32], set: u32) -> bool {
+    row.iter().all(|w| w & set != 0)
+}
+
+/// On some assignment.
+fn sometimes(row: &[u32], set: u32) -> bool {
+    row.iter().any(|w| w & set != 0)
+}
+
+/// The states that have a successor in the set.
+#[inline(always)]
+fn preimage(table: &Table, set: u32, meets: Meeting) -> u32 {
     let mut found = 0;
     for (x, row) in table.nexts.chunks_exact(1 << table.inputs.len()).enumerate() {
-        let meets = |w: &u32| w & set != 0;
-        if if every { row.iter().all(meets) } else { row.iter().any(meets) } {
-            found |= 1 << x;
-        }
+        found |= u32::from(meets(row, set)) << x;
     }
     found
 }
 
-/// The largest set inside `keep` whose members have, on every assignment or else on some, a
-/// successor in it.
-fn largest(table: &Table, keep: u32, every: bool) -> u32 {
+/// The largest set inside `keep` whose members have a successor in it.
+#[inline(always)]
+fn largest(table: &Table, keep: u32, meets: Meeting) -> u32 {
     let mut current = keep;
     loop {
-        let kept = current & preimage(table, current, every);
+        let kept = current & preimage(table, current, meets);
         if kept == current {
             return current;
         }
@@ -34,12 +45,12 @@ fn largest(table: &Table, keep: u32, every: bool) -> u32 {
     }
 }
 
-/// The least set that holds the goal and each state of `through` that has, on every assignment or
-/// else on some, a successor in it.
-fn least(table: &Table, through: u32, goal: u32, every: bool) -> u32 {
+/// The least set that holds the goal and each state of `through` that has a successor in it.
+#[inline(always)]
+fn least(table: &Table, through: u32, goal: u32, meets: Meeting) -> u32 {
     let mut current = goal;
     loop {
-        let grown = current | through & preimage(table, current, every);
+        let grown = current | through & preimage(table, current, meets);
         if grown == current {
             return current;
         }
@@ -61,16 +72,16 @@ fn mark(table: &Table, node: Node, marks: &[Mark]) -> Mark {
             Mark { pass: marks[x].pass | marks[y].pass, fail: marks[x].fail & marks[y].fail }
         }
         Node::Ex(x) => Mark {
-            pass: preimage(table, marks[x].pass, true),
-            fail: all & !preimage(table, all & !marks[x].fail, false),
+            pass: preimage(table, marks[x].pass, always),
+            fail: all & !preimage(table, all & !marks[x].fail, sometimes),
         },
         Node::Eg(x) => Mark {
-            pass: largest(table, marks[x].pass, true),
-            fail: all & !largest(table, all & !marks[x].fail, false),
+            pass: largest(table, marks[x].pass, always),
+            fail: all & !largest(table, all & !marks[x].fail, sometimes),
         },
         Node::Eu(x, y) => Mark {
-            pass: least(table, marks[x].pass, marks[y].pass, true),
-            fail: all & !least(table, all & !marks[x].fail, all & !marks[y].fail, false),
+            pass: least(table, marks[x].pass, marks[y].pass, always),
+            fail: all & !least(table, all & !marks[x].fail, all & !marks[y].fail, sometimes),
         },
     }
 }
