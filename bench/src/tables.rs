@@ -10,8 +10,9 @@ fn enough(question: Question) -> Duration {
     Duration::from_millis(if question == Question::Full { 2000 } else { 400 })
 }
 
-/// Asks the sides in turn until it is enough, at least three times unless that takes longer than 30
-/// seconds. Ends the program where two answers differ.
+/// Asks the sides in turn, forwards and backwards, until it is enough, at least three times unless that
+/// takes longer than 30 seconds. So each side comes at times after one that left its memory warm. Ends
+/// the program where two answers differ.
 fn rounds(question: Question, input: &Input) -> [Times; 3] {
     let mut times = SIDES.map(|_| Times::default());
     let mut expected = None;
@@ -21,8 +22,9 @@ fn rounds(question: Question, input: &Input) -> [Times; 3] {
         if round > 0 && processor_time() - start > limit {
             break;
         }
-        for ((_, side), times) in SIDES.iter().zip(&mut times) {
-            let answer = side.ask(question, input, times);
+        for turn in 0..3 {
+            let k = if round % 2 == 0 { turn } else { 2 - turn };
+            let answer = SIDES[k].1.ask(question, input, &mut times[k]);
             let same = *expected.get_or_insert_with(|| answer.clone()) == answer;
             assert!(same, "{}: the sides differ", input.name);
         }
