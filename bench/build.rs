@@ -1,6 +1,6 @@
-//! Links the proved archive, which `rt staticlib pinthar` writes, and compiles the plain side a second
-//! time, as the crate `native`, for the processor of this machine. Checking needs no archive, building
-//! does.
+//! Links the proved archive, which `rt staticlib pinthar` writes, and compiles the plain side a
+//! second time, as the crate `native`, for the processor of this machine. Checking needs no
+//! archive, building does.
 
 use std::env;
 use std::path::Path;

@@ -1,11 +1,12 @@
-//! The questions of the proved library beside plain Rust ones: same inputs, same run, release builds.
+//! The questions of the proved library beside plain Rust ones: same inputs, same run, release
+//! builds.
 //!
 //!     bench [PART]                         a table for each question
 //!     bench PART QUESTION                  the table of one question
 //!     bench PART QUESTION SIDE [COUNT]     one side alone, COUNT times: for a profiler
 //!
-//! PART is a part of the inputs' names; a QUESTION is full, marks, classes, merged, verdict, listing or
-//! lookup; a SIDE is proved, plain or native.
+//! PART is a part of the inputs' names; a QUESTION is full, marks, classes, merged, verdict,
+//! listing or lookup; a SIDE is proved, plain or native.
 
 mod inputs;
 mod measure;

@@ -5,14 +5,15 @@ use crate::measure::{processor_time, Times};
 use crate::sides::{Question, SIDES};
 use std::time::Duration;
 
-/// How long the sides are asked about an input: the full way, of which noise is a larger part, longer.
+/// How long the sides are asked about an input: the full way, of which noise is a larger part,
+/// longer.
 fn enough(question: Question) -> Duration {
     Duration::from_millis(if question == Question::Full { 2000 } else { 400 })
 }
 
-/// Asks the sides in turn, forwards and backwards, until it is enough, at least three times unless that
-/// takes longer than 30 seconds. So each side comes at times after one that left its memory warm. Ends
-/// the program where two answers differ.
+/// Asks the sides in turn, forwards and backwards, until it is enough, at least three times unless
+/// that takes longer than 30 seconds. So each side comes at times after one that left its memory
+/// warm. Ends the program where two answers differ.
 fn rounds(question: Question, input: &Input) -> [Times; 3] {
     let mut times = SIDES.map(|_| Times::default());
     let mut expected = None;

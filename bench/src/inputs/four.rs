@@ -1,4 +1,5 @@
-//! Random instruments of four components for the short way, tables that merge, and the longest file.
+//! Random instruments of four components for the short way, tables that merge, and the longest
+//! file.
 
 use super::formulas::nested;
 use super::random::successors;
@@ -6,7 +7,8 @@ use super::Input;
 use second::instrument::{Instrument, Node, Table};
 use second::prng::Prng;
 
-/// Component c drives signals 2c and 2c + 1 and reads one signal of each neighbour and two external ones.
+/// Component c drives signals 2c and 2c + 1 and reads one signal of each neighbour and two external
+/// ones.
 fn table(prng: &mut Prng, c: usize, states: usize, share: usize) -> Table {
     let mut inputs = vec![2 * ((c + 1) % 4), 2 * ((c + 3) % 4) + 1, 8 + c % 4, 8 + (c + 1) % 4];
     inputs.sort();

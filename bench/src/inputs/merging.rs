@@ -5,8 +5,8 @@ use super::Input;
 use second::instrument::{Instrument, Node, Table};
 use second::prng::Prng;
 
-/// 32 states of so many classes: on the last assignment a chain of classes, which keeps states apart, on
-/// the others all states. It drives its signal at the end, unless it has one class.
+/// 32 states of so many classes: on the last assignment a chain of classes, which keeps states
+/// apart, on the others all states. It drives its signal at the end, unless it has one class.
 fn table(c: usize, inputs: Vec<usize>, classes: usize) -> Table {
     let full: Vec<usize> = (0..32).collect();
     let class = |x: usize| x % classes;

@@ -1,6 +1,6 @@
-//! A total order of 4,096 states: from each to all later ones, in the order of indices, and from the
-//! last to itself. EG of "not among the last" takes states out one by one from the end, and each has all
-//! the earlier ones as predecessors, which are then looked at again.
+//! A total order of 4,096 states: from each to all later ones, in the order of indices, and from
+//! the last to itself. EG of "not among the last" takes states out one by one from the end, and
+//! each has all the earlier ones as predecessors, which are then looked at again.
 
 use super::formulas::only_eg;
 use super::Input;

@@ -23,8 +23,8 @@ pub fn successors(prng: &mut Prng, states: usize, share: usize) -> Vec<usize> {
     (0..states).filter(|&t| t == one || t == other || prng.below(32) < share).collect()
 }
 
-/// An instrument of this shape. Each component drives its own number's signal, unless all twelve are
-/// external.
+/// An instrument of this shape. Each component drives its own number's signal, unless all twelve
+/// are external.
 pub fn random(shape: &Shape) -> Instrument {
     let mut prng = Prng::new(shape.seed);
     let driving = !shape.external_only();

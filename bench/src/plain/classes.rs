@@ -2,7 +2,7 @@
 
 use super::instrument::Table;
 use super::marks::Mark;
-use super::words::members;
+use super::words::{below, members};
 
 pub type Relation = [u32; 32];
 
@@ -107,42 +107,68 @@ fn predecessors(table: &Table) -> Relation {
     before
 }
 
-/// The next member above the last one, or else the lowest.
-fn next(set: u32, last: usize) -> usize {
-    let above = set & !(u32::MAX >> (31 - last));
-    (if above != 0 { above } else { set }).trailing_zeros() as usize
+/// The lowest member from x on, or else the lowest.
+fn next(set: u32, x: usize) -> usize {
+    let later = set & !below(x);
+    (if later != 0 { later } else { set }).trailing_zeros() as usize
 }
 
-/// The relation of EG and EU: the largest inside the operands', which is symmetric, that keeps the rule
-/// by itself. A pair that fails goes out both ways; only pairs with successors in such a pair are looked
-/// at again.
+/// A relation, and the pairs of it that are to be looked at again.
+struct Half {
+    rows: Relation,
+    again: Relation,
+    /// The rows where there are such pairs.
+    left: u32,
+}
+
+/// Looks at row x of one half. Pairs that fail go out of both halves, and pairs of their
+/// predecessors are noted, since no other test depends on them.
+fn look(rule: &Rule, before: &Relation, own: &mut Half, other: &mut Half, x: usize) {
+    own.left &= !(1 << x);
+    let among = own.rows[x] & std::mem::take(&mut own.again[x]) & !rule.same_mark(x);
+    let failed = among & !rule.matched(&own.rows, x, among);
+    own.rows[x] &= !failed;
+    let mut others = 0;
+    for y in members(failed) {
+        other.rows[y] &= !(1 << x);
+        others |= before[y];
+    }
+    if others != 0 {
+        members(before[x]).for_each(|z| own.again[z] |= others);
+        own.left |= before[x];
+        members(others).for_each(|z| other.again[z] |= before[x]);
+        other.left |= others;
+    }
+}
+
+/// Looks at rows of one half until none is to be looked at; the other half's wait.
+fn settle(rule: &Rule, before: &Relation, own: &mut Half, other: &mut Half) {
+    let mut x = 0;
+    while own.left != 0 {
+        x = next(own.left, x);
+        look(rule, before, own, other, x);
+    }
+}
+
+/// The relation of EG and EU: the largest inside the operands' that keeps the rule by itself. It
+/// and its converse are cut down together, each for one half of the rule, and settled in turn.
 pub fn fixed(table: &Table, operands: &Relation, mark: Mark) -> Relation {
     let rule = Rule { table, mark, live: table.all() & !mark.fail };
     let before = predecessors(table);
     let mut rows = *operands;
-    let mut again = rows;
-    let mut left = table.all();
-    let mut x = 31;
-    while left != 0 {
-        x = next(left, x);
-        left &= !(1 << x);
-        let looked = again[x] & !rule.same_mark(x);
-        let failed = looked & !rule.matched(&rows, x, rule.same_outputs(x, looked));
-        again[x] = 0;
-        rows[x] &= !failed;
-        let mut others = 0;
-        for y in members(failed) {
-            rows[y] &= !(1 << x);
-            again[y] &= !(1 << x);
-            others |= before[y];
-        }
-        if others != 0 {
-            members(before[x]).for_each(|z| again[z] |= others & rows[z]);
-            members(others).for_each(|z| again[z] |= before[x] & rows[z]);
-            left |= before[x] | others;
-        }
+    for (x, row) in rows[..table.states].iter_mut().enumerate() {
+        *row &= rule.same_mark(x) | rule.same_outputs(x, *row);
     }
-    rows
+    let columns = converse(table, &rows);
+    let mut forth = Half { rows, again: rows, left: table.all() };
+    let mut back = Half { rows: columns, again: columns, left: table.all() };
+    loop {
+        settle(&rule, &before, &mut forth, &mut back);
+        if back.left == 0 {
+            return forth.rows;
+        }
+        settle(&rule, &before, &mut back, &mut forth);
+    }
 }
 
 /// The lowest related state of each: the name of its class.

@@ -1,6 +1,6 @@
-//! The questions in plain Rust, by the algorithms of the proved crates: same tables, same work lists,
-//! same order of work. Each file names the crate whose work it does. build.rs compiles this file a
-//! second time, as a crate of its own for the native processor.
+//! The questions in plain Rust, by the algorithms of the proved crates: same tables, same work
+//! lists, same order of work. Each file names the crate whose work it does. build.rs compiles this
+//! file a second time, as a crate of its own for the native processor.
 
 mod classes;
 mod instrument;

@@ -1,6 +1,6 @@
-//! Crates entry_queries, value_queries, queries and pinthar: each question over the bytes of a file and
-//! a lent buffer. A result has the refusal's number in its upper 32 bits and the answer in the lower.
-//! None is inlined, so that a profiler sees where it begins.
+//! Crates entry_queries, value_queries, queries and pinthar: each question over the bytes of a file
+//! and a lent buffer. A result has the refusal's number in its upper 32 bits and the answer in the
+//! lower. None is inlined, so that a profiler sees where it begins.
 
 use super::instrument::Instrument;
 use super::labels::write_truth;

@@ -1,5 +1,5 @@
-//! Crates relations and partitions: the relation at the root and the nodes under it, and the classes
-//! at the root.
+//! Crates relations and partitions: the relation at the root and the nodes under it, and the
+//! classes at the root.
 
 use super::classes::{both, everything, ex, fixed, names, same_level, Relation};
 use super::instrument::{Instrument, Node, Table};
