@@ -1,97 +1,58 @@
-//! Calls of the sides, and the printed tables.
+//! The printed tables: for each question, the times of the sides on each input.
 
 use crate::inputs::Input;
 use crate::measure::{processor_time, Times};
-use crate::plain::{self, Ways};
-use crate::{improved, proved};
+use crate::sides::{Question, SIDES};
 use std::time::Duration;
 
-/// What the lent buffer holds before each call: not zeros, so that a word left out is seen.
-const UNWRITTEN: u32 = 0xdead_beef;
-
-#[derive(Clone, Copy)]
-pub enum Side {
-    Proved,
-    Plain(&'static Ways),
+/// How long the sides are asked about an input: the full way, of which noise is a larger part,
+/// longer.
+fn enough(question: Question) -> Duration {
+    Duration::from_millis(if question == Question::Full { 2000 } else { 400 })
 }
 
-/// A side's answer: the count of words or the refusal's number, and the lent buffer afterwards.
-type Answer = (Result<usize, u32>, Vec<u32>);
-
-impl Side {
-    pub fn named(name: &str) -> Option<Side> {
-        match name {
-            "proved" => Some(Side::Proved),
-            "plain" => Some(Side::Plain(&plain::SAME)),
-            "improved" => Some(Side::Plain(&improved::ALL)),
-            _ => None,
-        }
-    }
-
-    /// Calls the side and times it. The buffer is filled before, outside the time.
-    pub fn call(self, times: &mut Times, file: &[u8]) -> Answer {
-        let mut out = vec![UNWRITTEN; 4096];
-        let result = times.time(|| match self {
-            Side::Proved => proved::full_words(file, &mut out),
-            Side::Plain(ways) => {
-                plain::full_words(ways, file, &mut out).map_err(|cause| cause as u32)
-            }
-        });
-        (result, out)
-    }
-}
-
-/// Calls the sides in turn for about two seconds, at least three times unless that takes longer than
-/// 30 seconds. Ends the program where two answers differ.
-fn rounds<const N: usize>(input: &Input, sides: [Side; N]) -> [Times; N] {
-    let mut times = sides.map(|_| Times::default());
+/// Asks the sides in turn, forwards and backwards, until it is enough, at least three times unless
+/// that takes longer than 30 seconds. So each side comes at times after one that left its memory
+/// warm. Ends the program where two answers differ.
+fn rounds(question: Question, input: &Input) -> [Times; 3] {
+    let mut times = SIDES.map(|_| Times::default());
+    let mut expected = None;
     let start = processor_time();
     for round in 0..1000 {
-        let limit = if round < 3 { 30 } else { 2 };
-        if round > 0 && processor_time() - start > Duration::from_secs(limit) {
+        let limit = if round < 3 { Duration::from_secs(30) } else { enough(question) };
+        if round > 0 && processor_time() - start > limit {
             break;
         }
-        let mut expected = None;
-        for (side, times) in sides.iter().zip(&mut times) {
-            let answer = side.call(times, &input.file);
-            let expected = expected.get_or_insert_with(|| answer.clone());
-            assert!(answer == *expected, "{}: the sides differ", input.name);
+        for turn in 0..3 {
+            let k = if round % 2 == 0 { turn } else { 2 - turn };
+            let answer = SIDES[k].1.ask(question, input, &mut times[k]);
+            let same = *expected.get_or_insert_with(|| answer.clone()) == answer;
+            assert!(same, "{}: the sides differ", input.name);
         }
     }
     times
 }
 
-/// Proved beside plain, best and median, and the plain way with all changes.
-pub fn compare(inputs: &[&Input]) {
+/// Best times of the three sides with the ratios of proved to each plain one, then medians.
+pub fn print(word: &str, question: Question, inputs: &[Input]) {
     println!(
-        "| input | proved | plain | ratio | proved, median | plain, median | ratio | improved |"
+        "| {word} | proved | plain | ratio | native | ratio | medians: proved | plain | ratio |"
     );
-    println!("|---|--:|--:|--:|--:|--:|--:|--:|");
+    println!("|---|--:|--:|--:|--:|--:|--:|--:|--:|");
     for input in inputs {
-        let sides = [Side::Proved, Side::Plain(&plain::SAME), Side::Plain(&improved::ALL)];
-        let [proved, plain, improved] = rounds(input, sides);
+        let [proved, plain, native] = rounds(question, input);
         println!(
-            "| {} | {} | {} | **{:.2}** | {} | {} | {:.2} | {} |",
+            "| {} | {} | {} | **{:.2}** | {} | {:.2} | {} | {} | {:.2} |",
             input.name,
             proved.best(),
             plain.best(),
             proved.best() / plain.best(),
+            native.best(),
+            proved.best() / native.best(),
             proved.median(),
             plain.median(),
             proved.median() / plain.median(),
-            improved.best(),
         );
     }
-}
-
-/// The plain way beside each change of it alone.
-pub fn propose(inputs: &[&Input]) {
-    println!("| input | plain | steps | EG | all |");
-    println!("|---|--:|--:|--:|--:|");
-    for input in inputs {
-        let ways = [&plain::SAME, &improved::BUILD, &improved::EG, &improved::ALL];
-        let times = rounds(input, ways.map(Side::Plain));
-        let cells: Vec<String> = times.iter().map(|times| times.best().to_string()).collect();
-        println!("| {} | {} |", input.name, cells.join(" | "));
-    }
+    println!();
 }

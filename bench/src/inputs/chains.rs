@@ -73,7 +73,7 @@ pub fn inputs() -> Vec<Input> {
     for (word, place) in [("in order", forward), ("in reverse", backward), ("shuffled", mixed)] {
         let few = chain(place.clone(), at_the_end(reaching(0)));
         inputs.push(Input::new(format!("chain {word}, EU and EG at its end"), &few));
-        let nest = chain(place, nested(&[0, 1, 2]));
+        let nest = chain(place, nested(&[0, 1, 2], 24));
         inputs.push(Input::new(format!("chain {word}, 24 nodes nested"), &nest));
     }
     inputs

@@ -3,14 +3,14 @@
 use second::instrument::Node;
 
 /// The nodes named by `signals`, or true where there are none, then EG and EU nested over each
-/// other up to 24 nodes in all.
-pub fn nested(signals: &[usize]) -> Vec<Node> {
+/// other up to so many nodes in all.
+pub fn nested(signals: &[usize], count: usize) -> Vec<Node> {
     let mut nodes: Vec<Node> = match signals {
         [] => vec![Node::True],
         _ => signals.iter().map(|&signal| Node::Signal(signal)).collect(),
     };
     let base = nodes.len();
-    while nodes.len() < 24 {
+    while nodes.len() < count {
         let last = nodes.len() - 1;
         let earlier = nodes.len() % base;
         nodes.push(match nodes.len() % 6 {

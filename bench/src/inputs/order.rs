@@ -1,6 +1,6 @@
-//! A total order of 4,096 states: from each to all later ones, in the order of indices, and from the
-//! last to itself. EG of "not among the last" takes states out one by one from the end, and each has all
-//! the earlier ones as predecessors, which are then looked at again.
+//! A total order of 4,096 states: from each to all later ones, in the order of indices, and from
+//! the last to itself. EG of "not among the last" takes states out one by one from the end, and
+//! each has all the earlier ones as predecessors, which are then looked at again.
 
 use super::formulas::only_eg;
 use super::Input;
@@ -40,8 +40,24 @@ fn table(c: usize) -> Table {
 }
 
 /// EG of "component 2 is not at its end", which leaves out the last 128 states.
+fn order(mut tables: Vec<Table>, more: Option<Table>, starts: Vec<Vec<usize>>) -> Instrument {
+    tables.extend(more);
+    Instrument { signals: 5, tables, nodes: only_eg(2), starts }
+}
+
 pub fn inputs() -> Vec<Input> {
-    let tables = (0..3).map(table).collect();
-    let instrument = Instrument { signals: 5, tables, nodes: only_eg(2), starts: vec![] };
+    let instrument = order((0..3).map(table).collect(), None, vec![]);
     vec![Input::new("total order, 22 EG over one signal", &instrument)]
+}
+
+/// Beside it a component of 32 states in one class, so that the full way has too many.
+pub fn short_inputs() -> Vec<Input> {
+    let still = Table {
+        inputs: vec![],
+        outputs: vec![],
+        levels: vec![vec![]; 32],
+        successors: vec![vec![(0..32).collect()]; 32],
+    };
+    let instrument = order((0..3).map(table).collect(), Some(still), vec![vec![0; 4]; 64]);
+    vec![Input::new("merged to a total order, 22 EG over one signal", &instrument)]
 }

@@ -17,14 +17,14 @@ pub struct Shape {
 }
 
 /// One successor, and others by the share.
-fn successors(prng: &mut Prng, states: usize, share: usize) -> Vec<usize> {
+pub fn successors(prng: &mut Prng, states: usize, share: usize) -> Vec<usize> {
     let one = prng.below(states);
     let other = if share == 0 { prng.below(2 * states) } else { states };
     (0..states).filter(|&t| t == one || t == other || prng.below(32) < share).collect()
 }
 
-/// An instrument of this shape. Each component drives its own number's signal, unless all twelve are
-/// external.
+/// An instrument of this shape. Each component drives its own number's signal, unless all twelve
+/// are external.
 pub fn random(shape: &Shape) -> Instrument {
     let mut prng = Prng::new(shape.seed);
     let driving = !shape.external_only();
@@ -42,7 +42,7 @@ pub fn random(shape: &Shape) -> Instrument {
         tables.push(Table { inputs, outputs, levels, successors });
     }
     let named: Vec<usize> = if driving { (0..tables.len()).collect() } else { vec![] };
-    Instrument { signals: 12, tables, nodes: nested(&named), starts: vec![] }
+    Instrument { signals: 12, tables, nodes: nested(&named, 24), starts: vec![] }
 }
 
 impl Shape {
@@ -54,7 +54,7 @@ impl Shape {
 
 /// Inputs of four components: `single` signals that one reads and `shared` ones that two
 /// neighbours read, numbered downwards from 11; component c itself drives signal c.
-fn external(single: usize, shared: usize) -> Vec<Vec<usize>> {
+pub fn external(single: usize, shared: usize) -> Vec<Vec<usize>> {
     let mut inputs = vec![vec![]; 4];
     for k in 0..single + shared {
         let signal = 11 - k;

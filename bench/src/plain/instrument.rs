@@ -1,5 +1,7 @@
 //! Crate instrument: what a good file holds.
 
+use super::words::below;
+
 /// A component's table: inputs and outputs are signal numbers, sets are words.
 pub struct Table {
     pub states: usize,
@@ -9,6 +11,25 @@ pub struct Table {
     pub words: Vec<u32>,
     /// State by state and assignment by assignment, the successor set.
     pub nexts: Vec<u32>,
+}
+
+impl Table {
+    /// The set of all states.
+    pub fn all(&self) -> u32 {
+        below(self.states)
+    }
+
+    /// The successor sets of a state, one for each assignment.
+    pub fn row(&self, state: usize) -> &[u32] {
+        &self.nexts[state << self.inputs.len()..][..1 << self.inputs.len()]
+    }
+
+    /// The states that drive a signal high, if it is an output.
+    pub fn driving(&self, signal: u32) -> Option<u32> {
+        let j = self.outputs.iter().position(|&output| output == signal)?;
+        let high = self.words.iter().enumerate();
+        Some(high.fold(0, |set, (x, word)| set | (word >> j & 1) << x))
+    }
 }
 
 /// A node of the formula.
@@ -28,6 +49,8 @@ pub struct Instrument {
     /// Bit w is 1 where a component drives signal w.
     pub driven: u32,
     pub nodes: Vec<Node>,
+    /// For each start, the state of each component, 0 past the last.
+    pub starts: Vec<[usize; 4]>,
 }
 
 impl Instrument {
@@ -54,5 +77,20 @@ impl Instrument {
             }
         }
         high
+    }
+
+    /// The root and the nodes under it: operands are earlier nodes, so one way down finds all.
+    pub fn under_root(&self) -> u32 {
+        let mut set = 1 << (self.nodes.len() - 1);
+        for (k, &node) in self.nodes.iter().enumerate().rev() {
+            if set >> k & 1 == 1 {
+                set |= match node {
+                    Node::True | Node::Signal(_) => 0,
+                    Node::Not(x) | Node::Ex(x) | Node::Eg(x) => 1 << x,
+                    Node::Or(x, y) | Node::Eu(x, y) => 1 << x | 1 << y,
+                };
+            }
+        }
+        set
     }
 }

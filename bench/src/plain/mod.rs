@@ -1,52 +1,24 @@
-//! The full way in plain Rust, by the algorithms of the proved crates: same matrices, same work
-//! lists, same order of work. Each file names the crate whose work it does.
+//! The questions in plain Rust, by the algorithms of the proved crates: same tables, same work
+//! lists, same order of work. Each file names the crate whose work it does. build.rs compiles this
+//! file a second time, as a crate of its own for the native processor.
 
-pub mod instrument;
-pub mod labels;
-pub mod operators;
-pub mod product;
-pub mod reader;
-pub mod refusal;
-pub mod sets;
-pub mod steps;
-pub mod transpose;
+mod classes;
+mod instrument;
+mod labels;
+mod marks;
+mod merged;
+mod merging;
+mod operators;
+mod product;
+mod questions;
+mod reader;
+mod refusal;
+mod relations;
+mod report;
+mod sets;
+mod steps;
+mod transpose;
+mod verdict;
+mod words;
 
-use instrument::Instrument;
-use refusal::Refusal;
-
-/// How the parts for which there is a better algorithm are done.
-pub struct Ways {
-    pub build: fn(&Instrument, usize, &mut [u64]),
-    pub eg: fn(&[u64], &[u64], usize, &sets::Set) -> sets::Set,
-}
-
-/// The proved crates' algorithms.
-pub const SAME: Ways = Ways { build: steps::build, eg: operators::eg };
-
-/// Crate queries, `full_words`: a word per combined state at the front of `out`, bit k the truth
-/// of node k. Not inlined, so that a profiler sees where it begins.
-#[inline(never)]
-pub fn full_words(ways: &Ways, file: &[u8], out: &mut [u32]) -> Result<usize, Refusal> {
-    let instrument = reader::read(file)?;
-    let n = instrument.combined_count();
-    if n > 4096 {
-        return Err(Refusal::FullSize);
-    }
-    if out.len() < n {
-        return Err(Refusal::Short);
-    }
-    write_words(ways, &instrument, n, &mut out[..n]);
-    Ok(n)
-}
-
-/// Crate truth, `write_truth`.
-fn write_words(ways: &Ways, instrument: &Instrument, n: usize, out: &mut [u32]) {
-    let size = n * n.div_ceil(64);
-    let mut steps = vec![0u64; size];
-    let mut predecessors = vec![0u64; size];
-    (ways.build)(instrument, n, &mut steps);
-    transpose::transpose(&steps, n, &mut predecessors);
-    let levels = labels::levels(instrument, n);
-    let truths = labels::truths(ways, instrument, &steps, &predecessors, &levels);
-    labels::write(&truths, out);
-}
+pub use questions::{class_names, full_words, listing, lookup, mark_words, merged_words, verdict};

@@ -2,6 +2,7 @@
 
 use super::instrument::{Instrument, Node, Table};
 use super::refusal::Refusal;
+use super::words::below;
 
 type Read<T> = Result<T, Refusal>;
 
@@ -20,16 +21,11 @@ pub fn read(file: &[u8]) -> Read<Instrument> {
         tables.push(reader.table(signals, &mut driven)?);
     }
     let nodes = reader.nodes(signals, driven)?;
-    reader.starts(&tables)?;
+    let starts = reader.starts(&tables)?;
     if reader.at < file.len() {
         return Err(Refusal::Trailing);
     }
-    Ok(Instrument { tables, driven, nodes })
-}
-
-/// The lowest `count` bits.
-fn below(count: u32) -> u32 {
-    ((1u64 << count) - 1) as u32
+    Ok(Instrument { tables, driven, nodes, starts })
 }
 
 impl Reader<'_> {
@@ -92,9 +88,10 @@ impl Reader<'_> {
         let (inputs, own) = self.ports(4, signals, 0)?;
         let (outputs, drives) = self.ports(8, signals, own | *driven)?;
         *driven |= drives;
-        let words = self.words(states as usize, 0, below(outputs.len() as u32))?;
-        let nexts = self.words((states as usize) << inputs.len(), 1, below(states))?;
-        Ok(Table { states: states as usize, inputs, outputs, words, nexts })
+        let states = states as usize;
+        let words = self.words(states, 0, below(outputs.len()))?;
+        let nexts = self.words(states << inputs.len(), 1, below(states))?;
+        Ok(Table { states, inputs, outputs, words, nexts })
     }
 
     fn nodes(&mut self, signals: u32, driven: u32) -> Read<Vec<Node>> {
@@ -134,17 +131,20 @@ impl Reader<'_> {
         })
     }
 
-    /// The starts, which the full way has no use for.
-    fn starts(&mut self, tables: &[Table]) -> Read<()> {
+    /// The starts: a state of each component.
+    fn starts(&mut self, tables: &[Table]) -> Read<Vec<[usize; 4]>> {
         let count = self.between(0, 64, Refusal::Range)?;
+        let mut starts = Vec::with_capacity(count as usize);
         for _ in 0..count {
-            for table in tables {
-                let state = self.number()?;
-                if state as usize >= table.states {
+            let mut start = [0; 4];
+            for (part, table) in start.iter_mut().zip(tables) {
+                *part = self.number()? as usize;
+                if *part >= table.states {
                     return Err(Refusal::Start);
                 }
             }
+            starts.push(start);
         }
-        Ok(())
+        Ok(starts)
     }
 }

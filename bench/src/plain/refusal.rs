@@ -2,7 +2,6 @@
 
 #[derive(Clone, Copy, Debug, PartialEq, Eq)]
 #[repr(u32)]
-#[allow(dead_code)] // the short way's two are not met here
 pub enum Refusal {
     Ended = 1,
     Form,

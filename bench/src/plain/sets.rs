@@ -24,18 +24,26 @@ pub fn union(x: &Set, y: &Set) -> Set {
     std::array::from_fn(|j| x[j] | y[j])
 }
 
-pub fn complement(n: usize, x: &Set) -> Set {
-    let all = below(n);
-    std::array::from_fn(|j| all[j] & !x[j])
+pub fn difference(x: &Set, y: &Set) -> Set {
+    std::array::from_fn(|j| x[j] & !y[j])
 }
 
-/// The lowest member of `a` that is not one of `b`.
-pub fn pick(width: usize, a: &Set, b: &Set) -> Option<usize> {
-    for (j, (&a, &b)) in a[..width].iter().zip(&b[..width]).enumerate() {
+pub fn complement(n: usize, x: &Set) -> Set {
+    difference(&below(n), x)
+}
+
+/// The lowest member of `a` that is not one of `b`, from word `from` on.
+fn pick_from(width: usize, a: &Set, b: &Set, from: usize) -> Option<usize> {
+    for (j, (&a, &b)) in a[..width].iter().zip(&b[..width]).enumerate().skip(from) {
         let rest = a & !b;
         if rest != 0 {
             return Some(j * 64 + rest.trailing_zeros() as usize);
         }
     }
     None
+}
+
+/// A member of `a` that is not one of `b`, sought from word `from` on and then from the first on.
+pub fn pick(width: usize, a: &Set, b: &Set, from: usize) -> Option<usize> {
+    pick_from(width, a, b, from).or_else(|| pick_from(width, a, b, 0))
 }

@@ -1,0 +1,44 @@
+//! Crates relations and partitions: the relation at the root and the nodes under it, and the
+//! classes at the root.
+
+use super::classes::{both, everything, ex, fixed, names, same_level, Relation};
+use super::instrument::{Instrument, Node, Table};
+use super::marks::Mark;
+
+/// One node, from the marks and the relations of earlier ones.
+fn relation(table: &Table, node: Node, mark: Mark, marks: &[Mark], rows: &[Relation]) -> Relation {
+    match node {
+        Node::True => everything(table),
+        Node::Signal(signal) => match table.driving(signal) {
+            Some(high) => same_level(table, high),
+            None => everything(table),
+        },
+        Node::Not(x) => rows[x],
+        Node::Or(x, y) => both(&rows[x], &rows[y]),
+        Node::Ex(x) => ex(table, &rows[x], mark, marks[x].fail),
+        Node::Eg(x) => fixed(table, &rows[x], mark),
+        Node::Eu(x, y) => fixed(table, &both(&rows[x], &rows[y]), mark),
+    }
+}
+
+/// The class names of a component: those of the relation at the root, the last node.
+fn component_classes(table: &Table, nodes: &[Node], needed: u32, marks: &[Mark]) -> Vec<u8> {
+    let mut rows: Vec<Relation> = Vec::with_capacity(nodes.len());
+    for (k, &node) in nodes.iter().enumerate() {
+        let row = match needed >> k & 1 {
+            1 => relation(table, node, marks[k], marks, &rows),
+            _ => [0; 32],
+        };
+        rows.push(row);
+    }
+    names(table, rows.last().expect("a root"))
+}
+
+/// The class names of all components, from their marks.
+pub fn all_classes(instrument: &Instrument, marks: &[Vec<Mark>]) -> Vec<Vec<u8>> {
+    let needed = instrument.under_root();
+    let classes = |(table, marks): (&Table, &Vec<Mark>)| {
+        component_classes(table, &instrument.nodes, needed, marks)
+    };
+    instrument.tables.iter().zip(marks).map(classes).collect()
+}
