@@ -5,17 +5,10 @@ pub mod Rows
 pub mod Loops
 pub mod Row
 pub mod Members
--- The rule of EX, EG and EU: matching of successors, one round, rounds until unchanged
+-- The rule of EX, EG and EU: matching of successors, one round
 pub mod Agree
 pub mod Matched
 pub mod Ruled
-pub mod Sum
-pub mod Changed
-pub mod Failing
-pub mod RowLook
-pub mod RowDelete
-pub mod Looks
-pub mod Fixed
 -- Names and count of classes
 pub mod Naming
 -- What the definitions mean; a formula's relation from those of its operands

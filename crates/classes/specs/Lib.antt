@@ -5,4 +5,3 @@ pub mod Names
 -- What the parts and the loops of the code keep
 pub mod Matching
 pub mod Loops
-pub mod Again

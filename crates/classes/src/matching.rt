@@ -11,7 +11,7 @@ ghost use Rattle.classes.specs.Rows.{rel};
 ghost use Rattle.classes.specs.Matching as matched;
 
 // The successor word of state x on assignment a.
-pub(crate) fn successors(succ: &[u32], inputs: usize, x: usize, a: usize) -> u32
+pub fn successors(succ: &[u32], inputs: usize, x: usize, a: usize) -> u32
     requires { ⌜ (inputs ≤ 4) × (2 ^ inputs * x + a < length (now succ)) ⌝ }
     ensures { λ r. ⌜ r ≡ component.successorWord inputs (now (succ .entry)) x a ⌝ }
 {
@@ -20,7 +20,7 @@ pub(crate) fn successors(succ: &[u32], inputs: usize, x: usize, a: usize) -> u32
 }
 
 // The states that a member of w is related to.
-pub(crate) fn image(r: &[u32; 32], states: usize, w: u32) -> u32
+pub fn image(r: &[u32; 32], states: usize, w: u32) -> u32
     requires { ⌜ (states ≤ 32) × (w < 2 ^ states) ⌝ }
     ensures { λ m. ⌜ m ≡ sets.built states (λ u. anyBelow states (λ v. sets.has w v && rel (now (r .entry)) v u)) ⌝ }
 {
@@ -71,7 +71,7 @@ fn covered(
 }
 
 // Of the states in `among` those of which, on every assignment, each non-FAIL successor has a successor of x that is related to it.
-pub(crate) fn matched_row(
+pub fn matched_row(
     succ: &[u32],
     states: usize,
     inputs: usize,

@@ -17,7 +17,7 @@ pub(crate) fn put(w: u32, t: usize, yes: bool) -> u32
 }
 
 // a if yes, else b.
-pub(crate) fn pick(yes: bool, a: u32, b: u32) -> u32
+pub fn pick(yes: bool, a: u32, b: u32) -> u32
     ensures { λ r. ⌜ r ≡ cond yes a b ⌝ }
 {
     if yes { a } else { b }
@@ -98,7 +98,7 @@ fn column(r: [u32; 32], states: usize, y: usize) -> u32
 }
 
 // The converse relation.
-pub(crate) fn converse(r: [u32; 32], states: usize) -> [u32; 32]
+pub fn converse(r: [u32; 32], states: usize) -> [u32; 32]
     requires { ⌜ states ≤ 32 ⌝ }
     ensures { λ s. ⌜ s ≡ conversed states r ⌝ }
 {

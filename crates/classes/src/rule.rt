@@ -1,19 +1,15 @@
-// The rule of EX, EG and EU for every pair of states at once, and the largest relation that keeps it (document 01, Classes).
-use crate::again::predecessors;
+// The rule of EX, EG and EU for every pair of states at once, and the relation of EX (document 01, Classes).
 use crate::matching::matched_rows;
 use crate::relation::converse;
 use crate::relation::pick;
 use crate::relation::put;
-use crate::relation::rel_all;
-use crate::settle::Todo;
-use crate::settle::settle;
 ghost use mathlib.Core.Path.{_≡_};
 ghost use Prim.Native.Nat.{_≤_, _<_};
 ghost use lib.ListN.{length, getD};
 ghost use lib.Dec.{eqb};
 ghost use Rattle.words.specs.Sets.{built};
 ghost use Rattle.meaning.specs.StepWords.{Steps};
-ghost use Rattle.classes.specs.Related.{relatedEx, relatedFixed};
+ghost use Rattle.classes.specs.Related.{relatedEx};
 ghost use Rattle.classes.specs.Matching as matched;
 
 // The states with the same compared outputs as x.
@@ -44,7 +40,7 @@ fn kept(states: usize, own: u32, pass: u32, fail: u32, alike: u32, x: usize) -> 
 }
 
 // The rule for every pair of r, where forth and back say which successors are matched.
-fn ruled(
+pub fn ruled(
     compared: &[u32],
     states: usize,
     r: [u32; 32],
@@ -86,70 +82,4 @@ pub fn rel_ex(
     let columns = matched_rows(succ, states, inputs, opposite, operand_fail);
     let forth = converse(columns, states);
     ruled(compared, states, operand, pass, fail, forth, back)
-}
-
-// The relation of EG and EU: the largest inside the operands' that keeps the rule by itself and by FAIL of the node. Rows of the relation and of
-// its converse are looked at in turn until all are settled.
-pub fn rel_fixed(
-    succ: &[u32],
-    states: usize,
-    inputs: usize,
-    compared: &[u32],
-    operands: [u32; 32],
-    pass: u32,
-    fail: u32,
-) -> [u32; 32]
-    requires { ⌜ Steps states inputs (now succ) × (states ≤ length (now compared)) ⌝ }
-    ensures { λ s. ⌜ s ≡ relatedFixed states inputs (now (succ .entry)) (now (compared .entry)) operands pass fail ⌝ }
-{
-    let pre = predecessors(succ, states, inputs);
-    let all = rel_all(states);
-    let mut rows = ruled(compared, states, operands, pass, fail, all, all);
-    let mut other = converse(rows, states);
-    let mut again = rows;
-    let mut back = other;
-    let every = words::below(states as u32);
-    let mut todo = Todo {
-        here: every,
-        there: every,
-    };
-    loop {
-        let settled = settle(
-            succ,
-            states,
-            inputs,
-            pass,
-            fail,
-            &pre,
-            &mut rows,
-            &mut other,
-            &mut again,
-            &mut back,
-            todo,
-        );
-        if settled.there == 0 {
-            return rows;
-        }
-        let turned = Todo {
-            here: settled.there,
-            there: settled.here,
-        };
-        let left = settle(
-            succ,
-            states,
-            inputs,
-            pass,
-            fail,
-            &pre,
-            &mut other,
-            &mut rows,
-            &mut back,
-            &mut again,
-            turned,
-        );
-        todo = Todo {
-            here: left.there,
-            there: left.here,
-        };
-    }
 }

@@ -1,0 +1,2 @@
+-- What the work on a relation keeps
+pub mod Again
