@@ -6,7 +6,7 @@ use mathlib.Core.List.{List}
 use lib.Dec.{T}
 use lib.ListN.{getD}
 use native.Mathlib.Omega.{arith}
-use Prim.Native.Nat.{ℕ, _^_, _≤_, _<_}
+use Prim.Native.Nat.{ℕ, _^_, _<_}
 use Rattle.words.specs.Sets.{has, built, below, complement, insert, intersection, union, subset, without, lowest}
 use Rattle.words.proofs.Members.{has-intersection, has-lt, has-none, has-union, intersection-le, intersection-lt-r, same-members, subset-in, subset-out}
 use Rattle.words.proofs.Built.{built-has, built-lt, built-same, has-built, less-in, less-out}

@@ -4,19 +4,14 @@ use mathlib.Core.Bool.{Bool, true, false, not, _&&_, _||_, Bool·beq, cond}
 use mathlib.Core.List.{List}
 use lib.Dec.{T}
 use lib.ListN.{getD}
-use native.Mathlib.Numerals.{add-one}
-use native.Mathlib.Omega.{arith}
-use Prim.Native.Nat.{ℕ, _+_, _^_, _≤_, _<_}
+use Prim.Native.Nat.{ℕ, _^_, _<_}
 use Rattle.words.specs.Sets.{has, built, below, complement, intersection, union, subset}
 use Rattle.words.proofs.Members.{has-none, has-union, has-intersection, intersection-lt, intersection-lt-r, below-lt, subset-in, subset-out}
 use Rattle.words.proofs.Built.{built-same, cut-built, has-built, has-complement, complement-lt}
-use Rattle.meaning.specs.Tests.{anyBelow}
 use Rattle.meaning.specs.Reference.Tests.{allBelow}
 use Rattle.meaning.proofs.Basic.Booleans.{test-eq, imp-in, imp-out}
 use Rattle.meaning.proofs.Basic.Bounded.{all-in, all-out}
-use Rattle.classes.specs.Rows.{rel}
 use Rattle.classes.specs.Matching.{kept}
-use Rattle.classes.specs.Loops.{Joining}
 
 pub has-picked : (b : Bool) (w y : ℕ) → has (cond b w 0) y ≡ (b && has w y)
 has-picked true w y = refl

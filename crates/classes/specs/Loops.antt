@@ -4,14 +4,12 @@ use mathlib.Core.Bool.{Bool, _&&_}
 use mathlib.Core.List.{List}
 use lib.Dec.{T}
 use lib.ListN.{getD}
-use Prim.Native.Nat.{ℕ, _^_, _≤_, _<_}
+use Prim.Native.Nat.{ℕ, _^_, _≤_}
 use Rattle.words.specs.Sets.{has, built}
 use Rattle.words.specs.Passing.{Passing}
 use Rattle.meaning.specs.Tests.{anyBelow}
 use Rattle.meaning.specs.Classes.{classesBelow}
 use Rattle.meaning.specs.Reference.Tests.{allBelow}
-use Rattle.meaning.specs.Reference.Relation.{largestB}
-use Rattle.meaning.specs.StepWords.{stepTable}
 use Rattle.classes.specs.Rows.{padded, rel}
 use Rattle.classes.specs.Matching.{matchedOn}
 

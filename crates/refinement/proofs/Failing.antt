@@ -2,7 +2,7 @@
 use mathlib.Core.Path.{_≡_, refl, sym, subst, ap, ap₂, _∙_}
 use mathlib.Core.Bool.{Bool, true, false, not, _&&_, _||_, cond}
 use Prim.Native.Nat.{ℕ, _^_, _<_}
-use Rattle.words.specs.Sets.{has, built, complement, intersection, union}
+use Rattle.words.specs.Sets.{has, built, complement, intersection}
 use Rattle.words.proofs.Members.{has-intersection, has-union, intersection-lt-r, same-members}
 use Rattle.words.proofs.Built.{built-lt, complement-lt, has-built, has-complement}
 use Rattle.refinement.specs.Again.{knownB, knownWith}

@@ -13,7 +13,7 @@ use Rattle.words.proofs.Passing.{lowest-some}
 use Rattle.words.proofs.Built.{built-lt, difference-iff, has-built, less-falls}
 use Rattle.meaning.proofs.Basic.Booleans.{and-l}
 use Rattle.classes.specs.Rows.{rel}
-use Rattle.refinement.specs.Again.{predecessorRows, fineB, sum, total, Arrays, Deleted, Looked, Settling, Settled}
+use Rattle.refinement.specs.Again.{predecessorRows, fineB, total, Arrays, Deleted, Looked, Settling, Settled}
 use Rattle.refinement.proofs.Sum.{sum-le, sum-falls}
 use Rattle.refinement.proofs.RowDelete.{cut-less, there, removed-less, working-none, working-deleted}
 

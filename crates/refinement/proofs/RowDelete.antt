@@ -1,17 +1,16 @@
 -- What a look at a row does keeps the work: nothing fails, or the pairs that fail go and those of their predecessors are noted.
-use mathlib.Core.Path.{_≡_, refl, sym, subst, ap, _∙_}
+use mathlib.Core.Path.{_≡_, sym, subst, ap, _∙_}
 use mathlib.Core.Logic.{_⊎_, inl, inr, _≢_}
-use mathlib.Core.Bool.{Bool, not, _&&_, _||_}
+use mathlib.Core.Bool.{Bool, not, _&&_}
 use mathlib.Core.List.{List}
 use lib.Dec.{T, T-not}
 use lib.ListN.{length, getD, set, length-set}
-use lib.Pow.{pow-pos}
 use lib.Seq.{getD-set-same, getD-set-other}
 use native.Mathlib.Decide.{ℕ-discrete}
 use native.Mathlib.Omega.{arith}
 use Prim.Native.Nat.{ℕ, _^_, _≤_, _<_}
 use Rattle.words.specs.Sets.{has, built, complement, insert, intersection, union, without}
-use Rattle.words.proofs.Members.{has-intersection, has-lt, has-none, has-union, intersection-lt, intersection-le}
+use Rattle.words.proofs.Members.{has-intersection, has-lt, has-none, has-union, intersection-le}
 use Rattle.words.proofs.Built.{complement-lt, difference-iff, has-built, has-built-lt, less-in, less-out}
 use Rattle.meaning.specs.Table.{assignments, Successor}
 use Rattle.meaning.specs.Tests.{anyBelow}

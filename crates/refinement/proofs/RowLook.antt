@@ -1,13 +1,11 @@
 -- A row of the relation is looked at, and the pairs whose test may have changed are noted: what the work keeps.
-use mathlib.Core.Path.{_≡_, refl, sym, subst, ap, _∙_}
+use mathlib.Core.Path.{_≡_, sym, subst}
 use mathlib.Core.Logic.{_⊎_, inl, inr, _≢_}
-use mathlib.Core.Bool.{Bool, not, _&&_, _||_}
+use mathlib.Core.Bool.{Bool, not, _&&_}
 use mathlib.Core.List.{List}
 use lib.Dec.{T, T-not}
-use lib.ListN.{length, getD}
 use native.Mathlib.Decide.{ℕ-discrete}
-use native.Mathlib.Omega.{arith}
-use Prim.Native.Nat.{ℕ, _^_, _≤_, _<_}
+use Prim.Native.Nat.{ℕ, _<_}
 use Rattle.words.specs.Sets.{has}
 use Rattle.meaning.specs.Table.{Table, assignments, Successor}
 use Rattle.meaning.specs.StepWords.{stepTable}
@@ -16,7 +14,7 @@ use Rattle.meaning.proofs.Basic.Booleans.{and-in, and-l, and-r, or-l, or-r, or-
 use Rattle.meaning.proofs.Basic.Decides.{test-decides}
 use Rattle.meaning.proofs.Classes.Rules.{match-in, match-out, matched-at}
 use Rattle.classes.specs.Rows.{rel}
-use Rattle.refinement.specs.Again.{Arrays, knownB, fineB, Fine, Cut, Side, Working}
+use Rattle.refinement.specs.Again.{Arrays, knownB, fineB, Cut, Working}
 
 pub arrays-turned : {r s d e : List ℕ} → Arrays r s d e → Arrays s r e d
 arrays-turned a = record { rows = a .other; other = a .rows; again = a .back; back = a .again }

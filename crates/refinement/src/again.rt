@@ -1,15 +1,14 @@
 // The relation of EG and EU by rows that are looked at again (document 01, Classes). The relation and its converse are cut down together: a
 // look at a row tests one half of the rule for the pairs that are noted there, and where pairs go out, the pairs of their predecessors are
 // noted, since no other test depends on them. specs/Again.antt says what the work keeps.
-use classes::matching::image;
 use classes::matching::matched_row;
 use classes::matching::successors;
 use classes::relation::converse;
 use classes::relation::pick;
 ghost use mathlib.Core.Path.{_≡_};
 ghost use mathlib.Core.Bool.{not, _&&_};
-ghost use Prim.Native.Nat.{_^_, _≤_, _<_};
-ghost use lib.ListN.{length, getD};
+ghost use Prim.Native.Nat.{_^_, _<_};
+ghost use lib.ListN.{length};
 ghost use Rattle.words.specs.Sets.{has, built, union, without};
 ghost use Rattle.meaning.specs.Tests.{anyBelow};
 ghost use Rattle.meaning.specs.StepWords.{Steps, successorWord};

@@ -1,4 +1,4 @@
-use mathlib.Core.Path.{_≡_, subst, sym, _∙_}
+use mathlib.Core.Path.{subst, sym, _∙_}
 use lib.Dec.{T}
 use native.Mathlib.Omega.{arith}
 use Prim.Native.Nat.{_<_}

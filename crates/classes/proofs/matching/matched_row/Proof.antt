@@ -2,7 +2,6 @@ use mathlib.Core.Path.{_≡_, _∙_}
 use native.Mathlib.Omega.{arith}
 use Prim.Native.Nat.{_-_, _^_}
 use Rattle.words.proofs.Digits.{power-word}
-use Rattle.meaning.specs.StepWords.{Steps}
 use Rattle.classes.specs.Loops.{MatchingOn}
 use Rattle.classes.proofs.Matched.{matching-start, matching-more, matching-narrow, matching-end, matching-none}
 use Rattle.classes.proofs.Component.{within}
