@@ -183,10 +183,13 @@ module _ (k w t : ℕ) where
       both true b h = (tt, h)
       both false b h = absurd h
 
-  pub less-in : (u : ℕ) → u < k → t ≢ u → T (has w u) → T (has rest u)
-  less-in u l z h =
+  pub less-same : (u : ℕ) → u < k → t ≢ u → has rest u ≡ has w u
+  less-same u l z =
       let e : has (complement k (insert 0 t)) u ≡ true = has-complement k (insert 0 t) u l ∙ ap not (insert-others 0 t u z ∙ has-none u) in
-      subst T (sym (has-intersection w (complement k (insert 0 t)) u ∙ (ap (λ b. has w u && b) e ∙ and-true (has w u)))) h
+      has-intersection w (complement k (insert 0 t)) u ∙ (ap (λ b. has w u && b) e ∙ and-true (has w u))
+
+  pub less-in : (u : ℕ) → u < k → t ≢ u → T (has w u) → T (has rest u)
+  less-in u l z h = subst T (sym (less-same u l z)) h
 
   pub less-falls : T (has w t) → rest < w
   unfolding intersection

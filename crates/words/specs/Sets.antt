@@ -37,6 +37,10 @@ below s = 2 ^ s - 1
 unfoldable pub complement : ℕ → ℕ → ℕ
 complement s w = built s (λ t. not (has w t))
 
+-- what is in w but for t, of the numbers below k
+unfoldable pub without : ℕ → ℕ → ℕ → ℕ
+without k w t = intersection w (complement k (insert 0 t))
+
 -- everything in a is in b
 unfoldable pub subset : ℕ → ℕ → Bool
 subset a b = eqb (intersection a b) a

@@ -76,6 +76,22 @@ pub fn lowest(w: u32) -> u32
     u32::trailing_zeros(w)
 }
 
+// w but for t.
+pub fn remove(w: u32, t: u32) -> u32
+    requires { ⌜ t < 32 ⌝ }
+    ensures { λ r. ⌜ r ≡ sets.without 32 w t ⌝ }
+{
+    w & !(1u32 << t)
+}
+
+// w but for its lowest member.
+pub fn without_lowest(w: u32) -> u32
+    requires { ⌜ 0 < w ⌝ }
+    ensures { λ r. ⌜ r ≡ sets.without 32 w (sets.lowest 32 w) ⌝ }
+{
+    w & (w - 1)
+}
+
 // How many members there are.
 pub fn size(w: u32) -> u32
     ensures { λ r. ⌜ r ≡ sets.size 32 w ⌝ }
