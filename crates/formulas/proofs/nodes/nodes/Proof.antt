@@ -2,7 +2,7 @@ use mathlib.Core.Path.{sym, ap, _∙_}
 use Rattle.cursor.specs.Answers.{got}
 use Rattle.cursor.proofs.Judged.{between-le}
 use Rattle.parsing.proofs.Steps.{goes-refused, goes-accepted, fits-refused}
-use Rattle.formulas.proofs.Counted.{uncounted, counted-added}
+use Rattle.formulas.proofs.Counted.{uncounted, counted}
 use borrow.Author.Needs.{needs}
 use Rattle.formulas.proofs.nodes.nodes.Statement.{statement}
 use Rattle.formulas.proofs.nodes.nodes.Tie as tie
@@ -56,7 +56,7 @@ returns-3 c =
     let count′ = c .before .before .count in
     let enum-told′ = c .before .before .before .before .before .before .enum-told in (
       goes-accepted _ _ _ _ (enum-told′ .given .1)
-          (counted-added _ _ _ _ _ _ _ _ _ (sym (between′ .ensures) ∙ ap got (count′ .given .1)) (c .with-nodes .ensures .0)),
+          (counted _ _ _ _ _ _ _ _ _ (sym (between′ .ensures) ∙ ap got (count′ .given .1)) (c .with-nodes .ensures .0)),
       c .with-nodes .ensures .1,
     )
 

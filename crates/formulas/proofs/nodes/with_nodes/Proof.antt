@@ -4,7 +4,7 @@ use Rattle.meaning.proofs.File.Progress.{length-list}
 use Rattle.parsing.specs.declared.Outcome.{Outcome}
 use Rattle.parsing.proofs.Parsers.{was, was-fault}
 use Rattle.parsing.proofs.Steps.{laid-refused, laid-accepted, fits-refused, fits-accepted}
-use Rattle.formulas.specs.Formulas.{nodesBy}
+use Rattle.formulas.specs.Formulas.{filledBy}
 use Rattle.formulas.proofs.Counted.{add-nodes}
 use Rattle.formulas.proofs.Layouts.{withNodes, nodes-laid}
 use borrow.Author.Needs.{needs}
@@ -33,7 +33,7 @@ returns c =
     let all′ = c .before .before .before .before .all-nodes in
     let outcome′ = c .before .before .outcome in
     let e =
-    was-fault _ _ _ (sym (ap (λ (o : Outcome). nodesBy o (all′ .result .at) (all′ .result .nodes)) (outcome′ .given .1)) ∙ all′ .ensures) in (
+    was-fault _ _ _ (sym (ap (λ (o : Outcome). filledBy o (all′ .result .at) (all′ .result .nodes)) (outcome′ .given .1)) ∙ all′ .ensures) in (
       record {
         laid =
             λ k l. laid-refused _ _ _ (c .refused .ensures)
@@ -50,7 +50,7 @@ returns-2 c =
     let all′ = c .before .before .before .before .all-nodes in
     let told′ = c .before .before .enum-told in
     let w =
-    was _ _ _ _ (sym (ap (λ (o : Outcome). nodesBy o (all′ .result .at) (all′ .result .nodes)) (told′ .given .1)) ∙ all′ .ensures) in (
+    was _ _ _ _ (sym (ap (λ (o : Outcome). filledBy o (all′ .result .at) (all′ .result .nodes)) (told′ .given .1)) ∙ all′ .ensures) in (
       record {
         laid =
             λ k l. laid-accepted _ _ _ (withNodes k (w .value)) _ (c .accepted .ensures)
