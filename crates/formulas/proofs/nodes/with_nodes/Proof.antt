@@ -11,21 +11,6 @@ use borrow.Author.Needs.{needs}
 use Rattle.formulas.proofs.nodes.with_nodes.Statement.{statement}
 use Rattle.formulas.proofs.nodes.with_nodes.Tie as tie
 
-all-nodes-requires : tie.Need-all-nodes-requires
-all-nodes-requires c κs = search needs
-
-enum-known-outcome : tie.Need-enum-known-outcome
-enum-known-outcome c = search needs
-
-refused-requires : tie.Need-refused-requires
-refused-requires c κs = search needs
-
-enum-told : tie.Need-enum-told
-enum-told c = search needs
-
-accepted-requires : tie.Need-accepted-requires
-accepted-requires c κs = search needs
-
 returns : tie.Need-returns
 returns c =
     let start′ = c .before .before .before .before .before .before .before in
@@ -70,10 +55,10 @@ pub with-nodes-spec : {M : Type 1} → statement M
 with-nodes-spec =
     tie.close
     (tie.spec
-    all-nodes-requires
-    enum-known-outcome
-    refused-requires
-    enum-told
-    accepted-requires
+    (λ c κs. search needs)
+    (λ c. search needs)
+    (λ c κs. search needs)
+    (λ c. search needs)
+    (λ c κs. search needs)
     returns
     returns-2)
