@@ -1,8 +1,8 @@
--- A node that was read, as its kind and operands, and so many of them (document 01, The instrument file).
+-- A node that was read, as its kind and operands; so many nodes, and so many starts (document 01, The instrument file).
 use mathlib.Core.List.{List}
-use Prim.Native.Nat.{ℕ}
-use Rattle.meaning.specs.File.Parser.{Got, found, fault, Parser, _>>=_, give}
-use Rattle.meaning.specs.File.Grammar.{limits, earlier}
+use Prim.Native.Nat.{ℕ, _+_}
+use Rattle.meaning.specs.File.Parser.{Got, found, fault, Parser, _>>=_, give, listOf}
+use Rattle.meaning.specs.File.Grammar.{limits, earlier, startState}
 use Rattle.cursor.specs.Answers.{number}
 use Rattle.instrument.specs.declared.Node.{Node}
 use Rattle.parsing.specs.declared.Outcome.{Outcome}
@@ -10,6 +10,7 @@ use Rattle.parsing.specs.declared.Outcome.the-variants.{Accepted, Refused}
 use Rattle.formulas.specs.declared.formula.NodeRead.{NodeRead}
 use Rattle.formulas.specs.declared.formula.NodeRead.the-variants.{Known, Unknown}
 use Rattle.formulas.specs.declared.nodes.NodeList.{NodeList}
+use Rattle.formulas.specs.declared.starts.StartList.{StartList}
 
 abbrev pub gotNode : NodeRead → Got Node
 gotNode (Known n next) = found n (next .at)
@@ -25,9 +26,17 @@ twoOperands kind k = do
   b ← earlier limits k
   give (record { kind = kind; left = a; right = b })
 
-abbrev pub nodesBy : Outcome → ℕ → List Node → Got (List Node)
-nodesBy Accepted at ns = found ns at
-nodesBy (Refused r) at ns = fault (number r)
+-- an array that was filled and the place reached
+abbrev pub filledBy : {A : Type 0} → Outcome → ℕ → List A → Got (List A)
+filledBy Accepted at l = found l at
+filledBy (Refused r) at l = fault (number r)
 
 abbrev pub gotNodes : NodeList → Got (List Node)
-gotNodes p = nodesBy (p .outcome) (p .at) (p .nodes)
+gotNodes p = filledBy (p .outcome) (p .at) (p .nodes)
+
+abbrev pub gotStarts : StartList → Got (List ℕ)
+gotStarts p = filledBy (p .outcome) (p .at) (p .starts)
+
+-- a start: a state of each of n components of these sizes
+abbrev pub startBy : List ℕ → ℕ → Parser (List ℕ)
+startBy sizes n = listOf (startState limits sizes) (λ c v. c + 1) n 0

@@ -2,66 +2,85 @@
 use cursor::Cursor;
 use cursor::Read;
 use cursor::Refusal;
+use instrument::Instrument;
 use parsing::Outcome;
 use parsing::lists;
 use parsing::lists::Moved;
 use parsing::step;
 use parsing::step::Step;
-ghost use Prim.Native.Nat.{_+_, _≤_, _<_};
+ghost use mathlib.Core.Path.{_≡_};
+ghost use Prim.Native.Nat.{_≤_};
+ghost use Rattle.meaning.specs.File.Parser.{repeat};
 ghost use Rattle.meaning.specs.File.Grammar.{limits};
-ghost use Rattle.parsing.specs.Stages.{times};
-ghost use Rattle.parsing.specs.Steps.{Goes, Fits};
+ghost use Rattle.instrument.specs.Layout.{rows};
+ghost use Rattle.parsing.specs.Stages.{mapped, times};
+ghost use Rattle.parsing.specs.Steps.{Adds, Goes, Fits};
 ghost use Rattle.formulas.specs.Stages.{addStart, readStarts};
+ghost use Rattle.formulas.specs.Formulas.{startBy, gotStarts};
 
-// One start more.
-fn next_start(file: &[u8], before: Step) -> Step
-    requires { ⌜ before .instrument .startcount < limits .starts ⌝ }
-    requires { ⌜ Fits (limits .components) (limits .nodes) (limits .starts) (before .instrument) ⌝ }
-    ensures { λ q. ⌜ Goes (now (file .entry)) addStart before q ⌝ }
-    ensures { λ q. ⌜ Fits (limits .components) (limits .nodes) (before .instrument .startcount + 1) (q .instrument) ⌝ }
+// Starts from the front of an array on and the place after them, or why they are refused.
+pub struct StartList {
+    pub outcome: Outcome,
+    pub at: usize,
+    pub starts: [u32; Instrument::ALL_STARTS],
+}
+
+// So many starts of n components of these sizes, in an array of others.
+fn all_starts(
+    file: &[u8],
+    from: Cursor,
+    count: u32,
+    n: usize,
+    sizes: [u32; Instrument::MAX_COMPONENTS],
+    others: [u32; Instrument::ALL_STARTS],
+) -> StartList
+    requires { ⌜ (count ≤ limits .starts) × (n ≤ limits .components) ⌝ }
+    ensures { λ r. ⌜ gotStarts r ≡ mapped (rows (limits .components) 0 others) (repeat (startBy sizes n) count (now (file .entry)) (from .at)) ⌝ }
 {
-    let outcome = before.outcome;
-    match outcome {
-        Outcome::Refused(r) => step::refused(r),
-        Outcome::Accepted => {
-            let mut t = before.instrument;
-            let j = t.startcount;
-            let n = t.components as usize;
-            let sizes = t.states;
-            let mut list = t.starts;
-            match lists::start(
-                file,
-                Cursor { at: before.at },
-                n,
-                sizes,
-                &mut list,
-                4 * (j as usize),
-            ) {
-                Moved::Stopped(r) => step::refused(r),
-                Moved::To(next) => {
-                    t.starts = list;
-                    t.startcount = j + 1;
-                    step::accepted(next, t)
-                }
+    let mut list = others;
+    let mut place = from;
+    let mut j: u32 = 0;
+    while j < count {
+        match lists::start(file, place, n, sizes, &mut list, 4 * (j as usize)) {
+            Moved::Stopped(r) => {
+                return StartList {
+                    outcome: Outcome::Refused(r),
+                    at: 0,
+                    starts: list,
+                };
+            }
+            Moved::To(next) => {
+                place = next;
             }
         }
+        j += 1;
+    }
+    StartList {
+        outcome: Outcome::Accepted,
+        at: place.at,
+        starts: list,
     }
 }
 
-// So many starts more.
-fn all_starts(file: &[u8], before: Step, count: u32) -> Step
-    requires { ⌜ before .instrument .startcount + count ≤ limits .starts ⌝ }
-    requires { ⌜ Fits (limits .components) (limits .nodes) (limits .starts) (before .instrument) ⌝ }
-    ensures { λ q. ⌜ Goes (now (file .entry)) (times count addStart) before q ⌝ }
-    ensures { λ q. ⌜ Fits (limits .components) (limits .nodes) (before .instrument .startcount + count) (q .instrument) ⌝ }
+// An instrument without starts, with so many.
+fn with_starts(file: &[u8], from: Cursor, count: u32, mut t: Instrument) -> Step
+    requires { ⌜ (count ≤ limits .starts) × Fits (limits .components) (limits .nodes) 0 t ⌝ }
+    ensures { λ q. ⌜ Adds (now (file .entry)) (times count addStart) t (from .at) q ⌝ }
+    ensures { λ q. ⌜ Fits (limits .components) (limits .nodes) (limits .starts) (q .instrument) ⌝ }
 {
-    let mut all = before;
-    let mut i: u32 = 0;
-    while i < count {
-        all = next_start(file, all);
-        i += 1;
+    let others = t.starts;
+    let sizes = t.states;
+    let read = all_starts(file, from, count, t.components as usize, sizes, others);
+    let outcome = read.outcome;
+    match outcome {
+        Outcome::Refused(r) => step::refused(r),
+        Outcome::Accepted => {
+            let list = read.starts;
+            t.startcount = count;
+            t.starts = list;
+            step::accepted(Cursor { at: read.at }, t)
+        }
     }
-    all
 }
 
 // The start count and the starts.
@@ -78,7 +97,7 @@ pub fn starts(file: &[u8], before: Step) -> Step
             let from = Cursor { at: before.at };
             match from.between(file, 0, 64, Refusal::Range) {
                 Read::Refused(r) => step::refused(r),
-                Read::Number(count, first) => all_starts(file, step::accepted(first, t), count),
+                Read::Number(count, first) => with_starts(file, first, count, t),
             }
         }
     }

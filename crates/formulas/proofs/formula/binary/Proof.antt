@@ -5,24 +5,6 @@ use borrow.Author.Needs.{needs}
 use Rattle.formulas.proofs.formula.binary.Statement.{statement}
 use Rattle.formulas.proofs.formula.binary.Tie as tie
 
-less-than-requires : tie.Need-less-than-requires
-less-than-requires c κs = search needs
-
-enum-known-r : tie.Need-enum-known-r
-enum-known-r c = search needs
-
-enum-known-v : tie.Need-enum-known-v
-enum-known-v c = search needs
-
-less-than-requires-2 : tie.Need-less-than-requires-2
-less-than-requires-2 c κs = search needs
-
-enum-known-r-2 : tie.Need-enum-known-r-2
-enum-known-r-2 c = search needs
-
-enum-known-u : tie.Need-enum-known-u
-enum-known-u c = search needs
-
 returns : tie.Need-returns
 returns c =
     let less-than′ = c .before .before .before .less-than in
@@ -48,12 +30,12 @@ pub binary-spec : {M : Type 1} → statement M
 binary-spec =
     tie.close
     (tie.spec
-    less-than-requires
-    enum-known-r
-    enum-known-v
-    less-than-requires-2
-    enum-known-r-2
-    enum-known-u
+    (λ c κs. search needs)
+    (λ c. search needs)
+    (λ c. search needs)
+    (λ c κs. search needs)
+    (λ c. search needs)
+    (λ c. search needs)
     returns
     returns-2
     returns-3)

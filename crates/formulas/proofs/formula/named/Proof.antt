@@ -5,23 +5,11 @@ use borrow.Author.Needs.{needs}
 use Rattle.formulas.proofs.formula.named.Statement.{statement}
 use Rattle.formulas.proofs.formula.named.Tie as tie
 
-number-requires : tie.Need-number-requires
-number-requires c κs = search needs
-
-enum-known-r : tie.Need-enum-known-r
-enum-known-r c = search needs
-
-enum-known-v : tie.Need-enum-known-v
-enum-known-v c = search needs
-
 returns : tie.Need-returns
 returns c =
     let number′ = c .before .before .before .before .number in
     let v′ = c .before .before .v in
     sym (named-high _ _ _ _ _ _ (sym (number′ .ensures) ∙ ap got (v′ .given .1)) (c .if1 .taken))
-
-member-requires : tie.Need-member-requires
-member-requires c κs = search needs
 
 returns-2 : tie.Need-returns-2
 returns-2 c =
@@ -48,11 +36,11 @@ pub named-spec : {M : Type 1} → statement M
 named-spec =
     tie.close
     (tie.spec
-    number-requires
-    enum-known-r
-    enum-known-v
+    (λ c κs. search needs)
+    (λ c. search needs)
+    (λ c. search needs)
     returns
-    member-requires
+    (λ c κs. search needs)
     returns-2
     returns-3
     returns-4)

@@ -7,18 +7,6 @@ use borrow.Author.Needs.{needs}
 use Rattle.formulas.proofs.formula.node.Statement.{statement}
 use Rattle.formulas.proofs.formula.node.Tie as tie
 
-number-requires : tie.Need-number-requires
-number-requires c κs = search needs
-
-enum-known-r : tie.Need-enum-known-r
-enum-known-r c = search needs
-
-enum-known-kind : tie.Need-enum-known-kind
-enum-known-kind c = search needs
-
-operands-requires : tie.Need-operands-requires
-operands-requires c κs = search needs
-
 returns : tie.Need-returns
 returns c =
     let number′ = c .before .before .before .number in
@@ -35,9 +23,9 @@ pub node-spec : {M : Type 1} → statement M
 node-spec =
     tie.close
     (tie.spec
-    number-requires
-    enum-known-r
-    enum-known-kind
-    operands-requires
+    (λ c κs. search needs)
+    (λ c. search needs)
+    (λ c. search needs)
+    (λ c κs. search needs)
     returns
     returns-2)

@@ -19,36 +19,6 @@ of c j =
     let a = c .args in
     mapped nodeOf (operands limits (a .w) (a .driven) (a .k) j (a .file .now) (a .from .at))
 
-named-requires : tie.Need-named-requires
-named-requires c κs = search needs
-
-unary-requires : tie.Need-unary-requires
-unary-requires c κs = search needs
-
-less-than-requires : tie.Need-less-than-requires
-less-than-requires c κs = search needs
-
-unary-requires-2 : tie.Need-unary-requires-2
-unary-requires-2 c κs = search needs
-
-binary-requires : tie.Need-binary-requires
-binary-requires c κs = search needs
-
-less-than-requires-2 : tie.Need-less-than-requires-2
-less-than-requires-2 c κs = search needs
-
-unary-requires-3 : tie.Need-unary-requires-3
-unary-requires-3 c κs = search needs
-
-less-than-requires-3 : tie.Need-less-than-requires-3
-less-than-requires-3 c κs = search needs
-
-unary-requires-4 : tie.Need-unary-requires-4
-unary-requires-4 c κs = search needs
-
-binary-requires-2 : tie.Need-binary-requires-2
-binary-requires-2 c κs = search needs
-
 returns : tie.Need-returns
 returns c =
     let start′ = c .before .before in
@@ -117,16 +87,16 @@ pub operands-spec : {M : Type 1} → statement M
 operands-spec =
     tie.close
     (tie.spec
-    named-requires
-    unary-requires
-    less-than-requires
-    unary-requires-2
-    binary-requires
-    less-than-requires-2
-    unary-requires-3
-    less-than-requires-3
-    unary-requires-4
-    binary-requires-2
+    (λ c κs. search needs)
+    (λ c κs. search needs)
+    (λ c κs. search needs)
+    (λ c κs. search needs)
+    (λ c κs. search needs)
+    (λ c κs. search needs)
+    (λ c κs. search needs)
+    (λ c κs. search needs)
+    (λ c κs. search needs)
+    (λ c κs. search needs)
     returns
     returns-2
     returns-3

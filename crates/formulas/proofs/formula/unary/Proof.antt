@@ -6,12 +6,6 @@ use borrow.Author.Needs.{needs}
 use Rattle.formulas.proofs.formula.unary.Statement.{statement}
 use Rattle.formulas.proofs.formula.unary.Tie as tie
 
-enum-known-operand : tie.Need-enum-known-operand
-enum-known-operand c = search needs
-
-enum-known-operand-2 : tie.Need-enum-known-operand-2
-enum-known-operand-2 c = search needs
-
 returns : tie.Need-returns
 returns c =
     let args′ = c .before .before .before .args in
@@ -26,7 +20,7 @@ pub unary-spec : {M : Type 1} → statement M
 unary-spec =
     tie.close
     (tie.spec
-    enum-known-operand
-    enum-known-operand-2
+    (λ c. search needs)
+    (λ c. search needs)
     returns
     returns-2)

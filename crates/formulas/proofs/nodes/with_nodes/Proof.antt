@@ -4,27 +4,12 @@ use Rattle.meaning.proofs.File.Progress.{length-list}
 use Rattle.parsing.specs.declared.Outcome.{Outcome}
 use Rattle.parsing.proofs.Parsers.{was, was-fault}
 use Rattle.parsing.proofs.Steps.{laid-refused, laid-accepted, fits-refused, fits-accepted}
-use Rattle.formulas.specs.Formulas.{nodesBy}
+use Rattle.formulas.specs.Formulas.{filledBy}
 use Rattle.formulas.proofs.Counted.{add-nodes}
 use Rattle.formulas.proofs.Layouts.{withNodes, nodes-laid}
 use borrow.Author.Needs.{needs}
 use Rattle.formulas.proofs.nodes.with_nodes.Statement.{statement}
 use Rattle.formulas.proofs.nodes.with_nodes.Tie as tie
-
-all-nodes-requires : tie.Need-all-nodes-requires
-all-nodes-requires c κs = search needs
-
-enum-known-outcome : tie.Need-enum-known-outcome
-enum-known-outcome c = search needs
-
-refused-requires : tie.Need-refused-requires
-refused-requires c κs = search needs
-
-enum-told : tie.Need-enum-told
-enum-told c = search needs
-
-accepted-requires : tie.Need-accepted-requires
-accepted-requires c κs = search needs
 
 returns : tie.Need-returns
 returns c =
@@ -33,7 +18,7 @@ returns c =
     let all′ = c .before .before .before .before .all-nodes in
     let outcome′ = c .before .before .outcome in
     let e =
-    was-fault _ _ _ (sym (ap (λ (o : Outcome). nodesBy o (all′ .result .at) (all′ .result .nodes)) (outcome′ .given .1)) ∙ all′ .ensures) in (
+    was-fault _ _ _ (sym (ap (λ (o : Outcome). filledBy o (all′ .result .at) (all′ .result .nodes)) (outcome′ .given .1)) ∙ all′ .ensures) in (
       record {
         laid =
             λ k l. laid-refused _ _ _ (c .refused .ensures)
@@ -50,7 +35,7 @@ returns-2 c =
     let all′ = c .before .before .before .before .all-nodes in
     let told′ = c .before .before .enum-told in
     let w =
-    was _ _ _ _ (sym (ap (λ (o : Outcome). nodesBy o (all′ .result .at) (all′ .result .nodes)) (told′ .given .1)) ∙ all′ .ensures) in (
+    was _ _ _ _ (sym (ap (λ (o : Outcome). filledBy o (all′ .result .at) (all′ .result .nodes)) (told′ .given .1)) ∙ all′ .ensures) in (
       record {
         laid =
             λ k l. laid-accepted _ _ _ (withNodes k (w .value)) _ (c .accepted .ensures)
@@ -70,10 +55,10 @@ pub with-nodes-spec : {M : Type 1} → statement M
 with-nodes-spec =
     tie.close
     (tie.spec
-    all-nodes-requires
-    enum-known-outcome
-    refused-requires
-    enum-told
-    accepted-requires
+    (λ c κs. search needs)
+    (λ c. search needs)
+    (λ c κs. search needs)
+    (λ c. search needs)
+    (λ c κs. search needs)
     returns
     returns-2)

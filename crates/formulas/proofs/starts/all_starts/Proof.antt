@@ -1,65 +1,72 @@
--- After i turns the step has i starts more.
-use mathlib.Core.Path.{_≡_}
+-- The loop has read the first j starts, and they are stored.
+use mathlib.Core.Path.{_≡_, refl, sym, ap, _∙_}
+use mathlib.Core.List.{List}
+use lib.ListN.{length}
 use native.Mathlib.Omega.{arith}
-use Prim.Native.Nat.{_+_, _-_, _≤_}
+use borrow.Author.Needs.{needs}
+use Prim.Native.Nat.{ℕ, _-_, _≤_}
+use Rattle.meaning.specs.File.Parser.{Done, done, found}
 use Rattle.meaning.specs.File.Grammar.{limits}
-use Rattle.parsing.specs.Stages.{times}
-use Rattle.parsing.specs.Steps.{Goes, Fits}
-use Rattle.parsing.proofs.Steps.{goes-none, goes-more, goes-all, fits-more}
-use Rattle.formulas.specs.Stages.{addStart}
+use Rattle.meaning.proofs.File.Progress.{Progress, begin, stop, more, end}
+use Rattle.instrument.specs.Layout.{rows}
+use Rattle.instrument.proofs.Rows.{rows-length}
+use Rattle.parsing.specs.Stages.{mapped}
+use Rattle.parsing.specs.Steps.{moved}
+use Rattle.parsing.proofs.Parsers.{was, was-fault}
+use Rattle.formulas.specs.Formulas.{startBy}
+use Rattle.formulas.proofs.Layouts.{start-more}
 use Rattle.formulas.proofs.starts.all_starts.Statement.{statement}
 use Rattle.formulas.proofs.starts.all_starts.Tie as tie
 
 abbrev Inv-loop : tie.InvT-loop
-Inv-loop file count all₀ i₀ all i =
-    (i ≤ count) × Goes file (times i addStart) all₀ all
-    × Fits (limits .components) (limits .nodes) (all₀ .instrument .startcount + i) (all .instrument)
+Inv-loop file count n sizes list₀ place₀ j₀ list place j =
+    (j ≤ count)
+    × Progress (λ (s : Done). startBy sizes n) (λ s a. s) file count done (place₀ .at)
+    (λ (ss : List (List ℕ)). list ≡ rows (limits .components) 0 list₀ ss) j done (place .at)
 
 abbrev μ-loop : tie.MeasureT-loop
-μ-loop file count all₀ i₀ all i = count - i
+μ-loop file count n sizes list₀ place₀ j₀ list place j = count - j
 
 loop-holds : tie.Need-loop-holds Inv-loop μ-loop
-loop-holds c = (
-  omega arith,
-  goes-none _ addStart _,
-  record {
-    few-components = c .before .pre .1 .few-components;
-    few-signals = c .before .pre .1 .few-signals;
-    few-nodes = c .before .pre .1 .few-nodes;
-    few-starts = omega arith;
-  },
-)
+loop-holds c = (omega arith, begin _ _ _ _ _ _ _ refl)
 
-next-start-requires : tie.Need-next-start-requires Inv-loop μ-loop
-next-start-requires c κs =
-    let pre′ = c .before .before .before .pre in
-    let f = c .before .loop .inv .2 in (
-      omega (arith, f .few-starts, c .loop-test .taken, pre′ .0),
-      fits-more _ _ _ _ _ _ _ (omega arith) (omega arith) (omega (arith, c .loop-test .taken, pre′ .0)) f,
-    )
+others-long : (c : tie.Start Inv-loop μ-loop) → length (c .args .others) ≡ 256
+others-long c = search needs
 
-add-i : tie.Need-add-i Inv-loop μ-loop
-add-i c = omega arith
+long : (c : tie.At-loop Inv-loop μ-loop) → 256 ≡ length (c .loop .list)
+long c =
+    let p = c .loop .inv .1 in
+    sym (ap length (p .held) ∙ rows-length (limits .components) (p .seen) 0 _ ∙ others-long (c .before .before))
 
-loop-less : tie.Need-loop-less Inv-loop μ-loop
-loop-less c = omega arith
-
-loop-again : tie.Need-loop-again Inv-loop μ-loop
-loop-again c =
-    let loop′ = c .before .before .loop in
-    let f = loop′ .inv .2 in (
-      omega arith,
-      goes-more _ addStart (loop′ .i) _ _ _ (loop′ .inv .1) (c .next-start .ensures .0),
-      fits-more _ _ _ _ _ _ _ (omega arith) (omega arith) (omega (arith, f .few-starts)) (c .next-start .ensures .1),
-    )
+start-requires : tie.Need-start-requires Inv-loop μ-loop
+start-requires c κs =
+    let pre′ = c .before .before .before .before .pre in
+    (pre′ .1, omega (arith, long (c .before .before), c .before .loop-test .taken, pre′ .0, pre′ .1))
 
 returns : tie.Need-returns Inv-loop μ-loop
 returns c =
-    let args′ = c .before .before .before .args in
-    let e : c .before .loop .i ≡ args′ .count = omega arith in (
-      goes-all _ addStart _ _ _ _ e (c .before .loop .inv .1),
-      fits-more _ _ _ _ _ _ _ (omega arith) (omega arith) (omega arith) (c .before .loop .inv .2),
+    let start′ = c .before .before .before .before .start in
+    let loop-test′ = c .before .before .before .before .before .before .loop-test in
+    let loop′ = c .before .before .before .before .before .before .before .loop in
+    let stopped = was-fault (λ vs. done) _ _ (sym (ap moved (c .before .r .given .1)) ∙ start′ .ensures .0) in
+    sym (ap (mapped _) (stop _ _ _ _ _ _ _ _ _ _ (loop′ .inv .1) (loop-test′ .taken) _ stopped))
+
+loop-again : tie.Need-loop-again Inv-loop μ-loop
+loop-again c =
+    let start′ = c .before .before .before .before .start in
+    let loop-test′ = c .before .before .before .before .before .before .loop-test in
+    let loop′ = c .before .before .before .before .before .before .before .loop in
+    let w = was (λ vs. done) _ _ _ (sym (ap moved (c .before .next .given .1)) ∙ start′ .ensures .0) in (
+      omega arith,
+      more _ _ _ _ _ _ _ _ _ _ (loop′ .inv .1) _ (loop-test′ .taken) (w .value) _ (w .is)
+          (λ ss n h. start-more _ _ _ _ _ ss (w .value) n (start′ .ensures .1 .all _ _ (w .is)) h),
     )
+
+returns-2 : tie.Need-returns-2 Inv-loop μ-loop
+returns-2 c =
+    let p = c .before .loop .inv .1 in
+    let e = end _ _ _ _ _ _ _ _ _ _ p (omega arith) in
+    ap (λ l. found l (c .before .loop .place .at)) (p .held) ∙ sym (ap (mapped (rows (limits .components) 0 (c .before .before .before .args .others))) e)
 
 pub all-starts-spec : {M : Type 1} → statement M
 all-starts-spec =
@@ -68,8 +75,14 @@ all-starts-spec =
     Inv-loop
     μ-loop
     loop-holds
-    next-start-requires
-    add-i
-    loop-less
+    (λ c. long (c .before .before))
+    (λ c. search needs)
+    (λ c. omega arith)
+    start-requires
+    (λ c. search needs)
+    returns
+    (λ c. search needs)
+    (λ c. omega arith)
+    (λ c. omega arith)
     loop-again
-    returns)
+    returns-2)
