@@ -1,6 +1,6 @@
 -- The rule that a node's kind picks, applied to the relations and marks of its operands, gives the relation of its formula; the nodes one after
 -- the other, those that are not needed left out.
-use mathlib.Core.Path.{_≡_, refl, sym, subst, ap, _∙_}
+use mathlib.Core.Path.{_≡_, refl, sym, subst, ap, ap₂, _∙_}
 use mathlib.Core.Bool.{Bool, true, false, cond}
 use mathlib.Core.List.{List, [], _∷_}
 use lib.Dec.{T}
@@ -8,6 +8,7 @@ use lib.ListN.{length, getD, set, replicate, length-replicate}
 use lib.Seq.{sets, set-getD}
 use native.Mathlib.Nat.{zero-add}
 use native.Mathlib.Omega.{arith}
+use borrow.Author.Tests.{lt-ltb, le-ltb}
 use Prim.Native.Nat.{ℕ, suc, _+_, _-_, _≤_, _<_}
 use Rattle.words.specs.Sets.{has}
 use Rattle.meaning.specs.Formula.{Formula}
@@ -29,7 +30,7 @@ use Rattle.marks.proofs.Written.{written-start, written-end, join-list, singles
 use Rattle.subformulas.specs.Under.{Closed}
 use Rattle.classes.specs.Related.{relatedAll}
 use Rattle.classes.proofs.Formulas.{top-rows, or-rows, ex-rows, eg-rows, eu-rows}
-use Rattle.relations.specs.Relations.{formulaRelation, signalRelation, comparing, noRelation, kindRelation, ruleRelation}
+use Rattle.relations.specs.Relations.{formulaRelation, signalRelation, comparing, noRelation, placeOf, kindRelation, ruleRelation}
 use Rattle.relations.specs.Relations.{Marked, neededRelation, listRelations, RelatedNodes, Relating}
 
 -- no known kind
@@ -38,6 +39,13 @@ pub kind-unknown : (states inputs : ℕ) (outputs outs succ compared : List ℕ)
 kind-unknown states inputs outputs outs succ compared kind w mark under a b h =
     let e : kind ≡ suc (suc (suc (suc (suc (suc (suc (kind - 7))))))) = omega arith in
     ap (λ k. kindRelation states inputs outputs outs succ compared k w mark under a b) e
+
+-- the place of an operand: its own where it is a node's number, or else 0
+pub place-in : (i : ℕ) → i < 24 → i ≡ placeOf i
+place-in i l = rw (lt-ltb i 24 l) refl
+
+pub place-out : (i : ℕ) → 24 ≤ i → 0 ≡ placeOf i
+place-out i l = rw (le-ltb i 24 l) refl
 
 -- a list stored at the front of another that has room for it, member by member
 pub front-at : {X : Type 0} (g : ℕ → X) (d : X) (l₀ : List X) (k : ℕ) → k ≤ length l₀ → (j : ℕ) → j < k
@@ -126,11 +134,14 @@ module _ (n : ℕ) (m : n ≤ 32) (ins outputs outs succ compared : List ℕ) wh
           → ruleRelation n (length ins) outputs outs succ compared (getD nodes k (nodeOf top)) (getD marks k noMark) marks r ≡ relationAt k
       node-formula k r h m w =
           rw (l .at k, needed-at k m, formula-at ns (l .earlier) k)
-          (kind-formula (formulaAt ns) (λ i. getD marks i noMark) (λ i. getD r i []) (nodeAt ns k)
-          (λ i o. marked .each i (omega (arith, l .earlier k i o, l .long)))
-          (λ i o. stored-at relationAt [] (replicate 24 noRelation) count k r
-          (omega (arith, length-replicate 24 noRelation, l .long, l .room)) w i (l .earlier k i o) ∙ needed-at i (closed .operands k i m o))
+          (kind-formula (formulaAt ns) (λ i. getD marks (placeOf i) noMark) (λ i. getD r (placeOf i) []) (nodeAt ns k)
+          (λ i o. rw (← place-in i (small i o)) (marked .each i (omega (arith, l .earlier k i o, l .long))))
+          (λ i o. rw (← place-in i (small i o)) (stored-at relationAt [] (replicate 24 noRelation) count k r
+          (omega (arith, length-replicate 24 noRelation, l .long, l .room)) w i (l .earlier k i o) ∙ needed-at i (closed .operands k i m o)))
           (getD marks k noMark) (marked .each k (omega (arith, l .long)) ∙ ap markOf (formula-at ns (l .earlier) k)))
+        where
+          small : (i : ℕ) → Operand i (nodeAt ns k) → i < 24
+          small i o = omega (arith, h, l .earlier k i o, l .long, l .room)
 
 -- the loop over the nodes
 module _
@@ -150,11 +161,19 @@ module _
     pub relating-start : Related 0 (replicate 24 noRelation)
     relating-start = record { reached = omega arith; each = λ ins e ns l c q. written-start (replicate 24 noRelation) 0 count _ }
 
-    -- node k is needed: its relation is stored
-    pub relating-in : states ≤ 32 → (k : ℕ) (r : List (List ℕ)) (v : List ℕ) → k < count → true ≡ has needed k
-        → v ≡ ruleRelation states inputs outputs outs succ compared (getD nodes k (nodeOf top)) (getD marks k noMark) marks r
-        → Related k r → Related (k + 1) (set r k v)
-    relating-in m k r v h i e s =
+    -- node k is needed: its relation is stored, from what stands at the places of its operands
+    abbrev ruleAt : ℕ → List (List ℕ) → ℕ → ℕ → List ℕ
+    ruleAt k r left right =
+        let node = getD nodes k (nodeOf top) in
+        kindRelation states inputs outputs outs succ compared (node .kind) (node .left) (getD marks k noMark) (getD marks left noMark)
+        (getD r left []) (getD r right [])
+
+    pub relating-in : states ≤ 32 → (k : ℕ) (r : List (List ℕ)) (v : List ℕ) → k < count → true ≡ has needed k → (left right : ℕ)
+        → left ≡ placeOf (getD nodes k (nodeOf top) .left) → right ≡ placeOf (getD nodes k (nodeOf top) .right)
+        → v ≡ ruleAt k r left right → Related k r → Related (k + 1) (set r k v)
+    relating-in m k r v h i left right a b w s =
+        let e : v ≡ ruleRelation states inputs outputs outs succ compared (getD nodes k (nodeOf top)) (getD marks k noMark) marks r =
+        w ∙ ap₂ (λ l p. ruleAt k r l p) a b in
         record {
           reached = omega arith;
           each =

@@ -3,6 +3,7 @@
 use mathlib.Core.Path.{_≡_}
 use mathlib.Core.Bool.{cond}
 use mathlib.Core.List.{List, [], _∷_}
+use lib.Dec.{ltb}
 use lib.ListN.{length, getD, replicate}
 use lib.Seq.{sets}
 use Prim.Native.Nat.{ℕ, zero, suc, _≤_, _<_}
@@ -44,6 +45,10 @@ comparing compared t = signals (λ x. getD compared x 0) t
 abbrev pub noRelation : List ℕ
 noRelation = replicate (limits .states) 0
 
+-- the place of an operand among the nodes, 0 for a number that is none
+abbrev pub placeOf : ℕ → ℕ
+placeOf i = cond (ltb i (limits .nodes)) i 0
+
 module _ (states inputs : ℕ) (outputs outs succ compared : List ℕ) where
   -- The kind picks the rule: w is the operand of a signal node, mark the marks of the node, under those of its first operand, and a and b
   -- are the relations of the operands. No known kind: all states are related.
@@ -61,8 +66,8 @@ module _ (states inputs : ℕ) (outputs outs succ compared : List ℕ) where
   -- the relation of a node, from the marks of all nodes and the relations of the nodes so far
   abbrev pub ruleRelation : Node → Mark → List Mark → List (List ℕ) → List ℕ
   ruleRelation node mark marks relations =
-      kindRelation (node .kind) (node .left) mark (getD marks (node .left) noMark) (getD relations (node .left) [])
-      (getD relations (node .right) [])
+      kindRelation (node .kind) (node .left) mark (getD marks (placeOf (node .left)) noMark) (getD relations (placeOf (node .left)) [])
+      (getD relations (placeOf (node .right)) [])
 
 -- marks that are those of a formula's nodes
 pub record Marked (t : Table) (κ : View ℕ) (ns : List (formula.Node ℕ)) (marks : List Mark) : Type 0 where

@@ -2,7 +2,7 @@ use mathlib.Core.Path.{sym, _∙_}
 use mathlib.Core.Logic.{⊎-elim}
 use native.Mathlib.Omega.{arith}
 use Prim.Native.Nat.{_-_, _<_}
-use Rattle.marks.proofs.NodeMarks.{operands-listed}
+use borrow.Author.Needs.{needs}
 use Rattle.relations.specs.Relations.{Relating}
 use Rattle.relations.proofs.NodeRelations.{relating-start, relating-in, relating-out, relating-end}
 use Rattle.relations.proofs.formula_relations.Statement.{statement}
@@ -23,9 +23,8 @@ room i =
 
 node-relation-requires : tie.Need-node-relation-requires Inv-loop μ-loop
 node-relation-requires c κs =
-    let i = c .before .before .before .before in
-    let p = i .before .before .before .before .before .before .pre in
-    (p .0, p .1, operands-listed _ _ (p .2 .0) (p .2 .1) (i .before .loop .k) (i .loop-test .taken))
+    let s = c .before .before .before .before .before .before .before .before .before .before .before .before .before .before .before in
+    (s .pre .0, s .pre .1)
 
 loop-again : tie.Need-loop-again Inv-loop μ-loop
 loop-again c =
@@ -35,9 +34,9 @@ loop-again c =
     let s = l .before .before .before .before .before in
     ⊎-elim
     (λ h.
-    rw (h .4)
+    rw (h .9)
     (relating-in _ _ _ _ _ _ _ _ _ _ (s .pre .0 .steps .most-states) (l .loop .k) (l .loop .relations) _ (i .loop-test .taken)
-    (sym (h .0 .taken) ∙ m .member .ensures) (h .3 .ensures) (l .loop .inv)))
+    (sym (h .0 .taken) ∙ m .member .ensures) (h .1 .result) (h .2 .result) (h .1 .ensures .1) (h .2 .ensures .1) (h .8 .ensures) (l .loop .inv)))
     (λ h.
     rw (h .1)
     (relating-out _ _ _ _ _ _ _ _ _ _ (l .loop .k) (l .loop .relations) (i .loop-test .taken) (sym (h .0 .left) ∙ m .member .ensures) (l .loop .inv)))
@@ -54,11 +53,23 @@ formula-relations-spec =
     (λ c κs. omega (arith, room c))
     (λ c. omega (arith, room (c .before .before)))
     (λ c. omega (arith, room (c .before .before)))
+    (λ c κs. search needs)
     (λ c. omega (arith, room (c .before .before .before)))
     (λ c. omega (arith, room (c .before .before .before)))
+    (λ c κs. search needs)
+    (λ c. omega (arith, room (c .before .before .before .before)))
+    (λ c. omega (arith, room (c .before .before .before .before)))
+    (λ c. omega (arith, room (c .before .before .before .before .before)))
+    (λ c. omega (arith, room (c .before .before .before .before .before)))
+    (λ c. omega (arith, c .before .before .before .place .ensures .0))
+    (λ c. c .before .before .before .place .ensures .0)
+    (λ c. omega (arith, c .before .before .before .before .place .ensures .0))
+    (λ c. c .before .before .before .before .place .ensures .0)
+    (λ c. omega (arith, c .before .before .before .before .place2 .ensures .0))
+    (λ c. c .before .before .before .before .place2 .ensures .0)
     node-relation-requires
-    (λ c. omega (arith, room (c .before .before .before .before .before)))
-    (λ c. omega (arith, room (c .before .before .before .before .before)))
+    (λ c. omega (arith, room (c .before .before .before .before .before .before .before .before .before .before)))
+    (λ c. omega (arith, room (c .before .before .before .before .before .before .before .before .before .before)))
     (λ c. omega (arith, room (c .before .before)))
     (λ c. omega arith)
     loop-again
