@@ -7,7 +7,6 @@ use lib.ListN.{getD}
 use Prim.Native.Nat.{ℕ, _^_, _≤_}
 use Rattle.words.specs.Sets.{has, built}
 use Rattle.words.specs.Passing.{Passing}
-use Rattle.meaning.specs.Tests.{anyBelow}
 use Rattle.meaning.specs.Classes.{classesBelow}
 use Rattle.meaning.specs.Reference.Tests.{allBelow}
 use Rattle.classes.specs.Rows.{padded, rel}
@@ -27,11 +26,6 @@ pub record Filling (n : ℕ) (f : ℕ → ℕ) (l : List ℕ) (x : ℕ) : Type 0
 pub record Joining (w : ℕ) (r : List ℕ) (m rest : ℕ) : Type 0 where
   pub passing : Passing w rest (λ v. (u : ℕ) → T (rel r v u) → T (has m u))
   pub from : (u : ℕ) → T (has m u) → (v : ℕ) × T (has w v) × T (rel r v u)
-
--- w is the union of the sets f 0, f 1, .. below a, on the way to m
-pub record Uniting (n m : ℕ) (f : ℕ → ℕ) (w a : ℕ) : Type 0 where
-  pub bound : a ≤ m
-  pub word : w ≡ built n (λ v. anyBelow a (λ a. has (f a) v))
 
 -- of the members of w those that fail the test f have been taken out of `result`, but for those in `rest`
 pub record Sifting (f : ℕ → Bool) (w result rest : ℕ) : Type 0 where

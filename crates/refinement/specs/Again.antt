@@ -15,6 +15,7 @@ use Rattle.meaning.specs.Reference.Relation.{matchedB}
 use Rattle.meaning.specs.StepWords.{stepTable, successorWord}
 use Rattle.classes.specs.Rows.{rel, rows}
 
+-- the sum of a list
 unfoldable pub sum : List ℕ → ℕ
 sum [] = 0
 sum (x ∷ xs) = x + sum xs
@@ -22,6 +23,11 @@ sum (x ∷ xs) = x + sum xs
 -- row v has the states with the successor v on some assignment
 unfoldable pub predecessorRows : ℕ → ℕ → List ℕ → List ℕ
 predecessorRows states inputs succ = rows states (λ v x. anyBelow (2 ^ inputs) (λ a. has (successorWord inputs succ x a) v))
+
+-- w is the union of the sets f 0, f 1, .. below a, on the way to m
+pub record UnitedTo (n m : ℕ) (f : ℕ → ℕ) (w a : ℕ) : Type 0 where
+  pub bound : a ≤ m
+  pub word : w ≡ built n (λ v. anyBelow a (λ a. has (f a) v))
 
 -- both PASS, or both FAIL, of the node
 abbrev pub knownB : ℕ → ℕ → ℕ → ℕ → Bool
