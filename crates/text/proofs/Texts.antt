@@ -5,12 +5,11 @@ use mathlib.Core.List.{List, [], _∷_, _++_}
 use lib.Dec.{ltb}
 use borrow.Author.Tests.{lt-ltb, le-ltb}
 use lib.ListN.{length, getD, set, replicate, take, length-append}
-use lib.Seq.{sets, take-suc, length-take-le, length-sets}
+use lib.Seq.{sets, take-suc, length-sets}
 use native.Mathlib.Omega.{arith}
 use Prim.Native.Nat.{ℕ, zero, suc, _+_, _-_, _/_, _%_, _≤_, _<_}
 use Rattle.meaning.proofs.Basic.Entries.{sets-append}
 use Rattle.answers.specs.Listing.{digitsOf, decimal}
-use Rattle.text.specs.declared.Text.{Text}
 use Rattle.text.specs.Texts.{textOf, Put}
 
 pub put-none : (at : ℕ) (old : List ℕ) → Put [] at at old old

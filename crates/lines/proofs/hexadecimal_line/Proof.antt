@@ -1,17 +1,15 @@
-use mathlib.Core.List.{List, _++_}
+use mathlib.Core.List.{List}
 use native.Mathlib.Omega.{arith}
-use lib.ListN.{length, getD, length-append}
+use lib.ListN.{length, getD}
 use Prim.Native.Nat.{ℕ, _-_}
-use borrow.Author.Needs.{needs}
-use Rattle.answers.specs.Listing.{lineEnd}
 use Rattle.answers.specs.Lines.{hexadecimalByte}
 use Rattle.meaning.specs.Reference.Answers.{joinBelow}
 use Rattle.text.specs.Texts.{Put}
-use Rattle.text.proofs.Texts.{put-more, put-length}
+use Rattle.text.proofs.Texts.{put-length}
 use Rattle.report.specs.Appending.{Appending}
 use Rattle.report.proofs.Appending.{appending-start, appending-room, appending-more, appending-end}
 use Rattle.lines.proofs.Lengths.{digits-length}
-use Rattle.lines.proofs.Making.{put-made}
+use Rattle.lines.proofs.Making.{line-made}
 use Rattle.lines.proofs.hexadecimal_line.Statement.{statement}
 use Rattle.lines.proofs.hexadecimal_line.Tie as tie
 
@@ -61,8 +59,7 @@ returns : tie.Need-returns Inv-loop μ-loop
 returns c =
     let s = c .before .before .before .before .before .before .before .before in
     let ws = s .args .bytes .now in
-    put-made (omega (arith, s .pre, digits-length ws, length-append (joinBelow (length ws) (piece ws)) lineEnd))
-    (put-more (ended (c .before .before .before .before)) (c .before .before .byte .ensures))
+    line-made (omega (arith, s .pre, digits-length ws)) (ended (c .before .before .before .before)) (c .before .before .byte .ensures)
 
 pub hexadecimal-line-spec : {M : Type 1} → statement M
 hexadecimal-line-spec =
