@@ -15,7 +15,7 @@ use Rattle.text.specs.Texts.{textOf}
 use Rattle.report.specs.Report.{Spelled, bytesIn}
 use Rattle.report.proofs.Copies.{copied, spelled-count}
 use Rattle.lines.specs.Made.{Made}
-use Rattle.lines.proofs.Appending.{made-fits}
+use Rattle.lines.proofs.Making.{made-fits}
 use Rattle.answer_text.specs.Settled.{Settled}
 
 pub spelled : (text : Text) (l : List ℕ) → text ≡ textOf l → length l ≤ 2048 → Spelled text l

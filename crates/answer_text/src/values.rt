@@ -60,8 +60,7 @@ pub(crate) fn verdict(file: &[u8], out: &mut [u8; TEXT_BYTES]) -> usize
 fn usage_text() -> Text
     ensures { λ r. ⌜ r ≡ textOf usageLine ⌝ }
 {
-    let empty = Text::empty();
-    empty.word(
+    Text::of_word(
         b"usage: query full | marks | classes | merged | listing | lookup A B C D | verdict | stretch C < FILE\n",
     )
 }

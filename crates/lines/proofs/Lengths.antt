@@ -1,5 +1,5 @@
 -- How long the words and lines are.
-use mathlib.Core.Path.{_≡_, refl, ap}
+use mathlib.Core.Path.{_≡_, refl}
 use mathlib.Core.Bool.{Bool, true, false}
 use mathlib.Core.List.{List, _++_}
 use lib.ListN.{length, getD, length-append}
@@ -11,8 +11,6 @@ use Rattle.answers.specs.Outcomes.{Reply, given, denied, Judgement}
 use Rattle.answers.specs.Listing.{decimal, space, lineEnd, componentLabel, stageWord, verdictWord}
 use Rattle.answers.specs.Lines.{wordAt, nodeLabel, passLabel, failLabel, markLine, markLineAt, markLines}
 use Rattle.answers.specs.Lines.{hexadecimalByte, truthWord, lookupLine, judgementLine}
-use Rattle.text.specs.declared.Text.{Text}
-use Rattle.text.specs.Texts.{textOf}
 use Rattle.text.proofs.Texts.{decimal-length}
 use Rattle.report.proofs.Lengths.{join-short, name-short, verdict-short, stage-short, refusal-line-short}
 
@@ -41,10 +39,8 @@ mark-short c k pass fail =
       decimal-length fail,
     )
 
-pub mark-label-short : (t : Text) (c k : ℕ) → t ≡ textOf (componentLabel ++ (decimal c ++ (nodeLabel ++ decimal k))) → t .count ≤ 36
-unfolding textOf
-mark-label-short t c k e =
-    omega (arith, ap (λ t. t .count) e, length-append (decimal c) (nodeLabel ++ decimal k), decimal-length c, decimal-length k)
+pub mark-label-short : (c k : ℕ) → length (componentLabel ++ (decimal c ++ (nodeLabel ++ decimal k))) ≤ 36
+mark-label-short c k = omega (arith, length-append (decimal c) (nodeLabel ++ decimal k), decimal-length c, decimal-length k)
 
 -- 4 components of 24 nodes: 96 lines
 pub marks-short : (nodes : ℕ) (ws : List ℕ) → length ws ≤ 192 → length (markLines nodes ws) ≤ 6624

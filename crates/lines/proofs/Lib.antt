@@ -1,6 +1,6 @@
 -- how long the pieces and the lines are
 pub mod Lengths
--- pieces put one after the other into a buffer
-pub mod Appending
--- each piece as a text
+-- what was put at the front of a lent buffer
+pub mod Making
+-- parts of a word, of a line
 pub mod Parts

@@ -1,6 +1,6 @@
 // The lines that the programs print, as bytes: in a lent buffer, or by value where there is one line alone. The specs of crate `answers` define
 // them (specs/Lines).
-mod pieces; // pieces.rt: each word, each line as a text
+mod pieces; // pieces.rt: each word, each line
 
 ghost use mathlib.Core.Path.{_≡_};
 ghost use Prim.Native.Nat.{_+_, _*_, _≤_, _<_};
@@ -13,9 +13,9 @@ ghost use Rattle.lines.specs.Made.{Made};
 use pieces::byte_text;
 use pieces::mark_text;
 use pieces::word_text;
-use report::append;
 use report::lines::judgement_line;
 use text::Text;
+use text::byte;
 
 // Words in decimal with one space between.
 pub fn words_line(words: &[u32], out: &mut [u8]) -> usize
@@ -25,12 +25,10 @@ pub fn words_line(words: &[u32], out: &mut [u8]) -> usize
     let mut at: usize = 0;
     let mut i: usize = 0;
     while i < words.len() {
-        let word = word_text(i, words[i]);
-        at = append(word, out, at);
+        at = word_text(i, words[i], out, at);
         i += 1;
     }
-    out[at] = b'\n';
-    at + 1
+    byte(b'\n', out, at)
 }
 
 // A line for every two words, PASS and FAIL of a component and a node, where each component has so many nodes.
@@ -42,8 +40,14 @@ pub fn mark_lines(nodes: usize, marks: &[u32], out: &mut [u8]) -> usize
     let mut at: usize = 0;
     let mut j: usize = 0;
     while j < n {
-        let line = mark_text(j / nodes, j % nodes, marks[2 * j], marks[2 * j + 1]);
-        at = append(line, out, at);
+        at = mark_text(
+            j / nodes,
+            j % nodes,
+            marks[2 * j],
+            marks[2 * j + 1],
+            out,
+            at,
+        );
         j += 1;
     }
     at
@@ -57,29 +61,27 @@ pub fn hexadecimal_line(bytes: &[u8], out: &mut [u8]) -> usize
     let mut at: usize = 0;
     let mut i: usize = 0;
     while i < bytes.len() {
-        let digits = byte_text(bytes[i]);
-        at = append(digits, out, at);
+        at = byte_text(bytes[i], out, at);
         i += 1;
     }
-    out[at] = b'\n';
-    at + 1
+    byte(b'\n', out, at)
 }
 
 // The line of a lookup that is answered: "true" or "false".
 pub fn truth_line(truth: bool) -> Text
     ensures { λ r. ⌜ r ≡ textOf (lookupLine (given truth)) ⌝ }
 {
-    let empty = Text::empty();
     if truth {
-        return empty.word(b"true\n");
+        return Text::of_word(b"true\n");
     }
-    empty.word(b"false\n")
+    Text::of_word(b"false\n")
 }
 
 // The line of a verdict that is given: "holds marks" and the like.
 pub fn verdict_line(holds: bool, by_marks: bool) -> Text
     ensures { λ r. ⌜ r ≡ textOf (judgementLine (given (judgementFrom holds «by_marks»))) ⌝ }
 {
-    let empty = Text::empty();
-    judgement_line(empty, holds, by_marks)
+    let mut bytes = [0u8; 2048];
+    let count = judgement_line(holds, by_marks, &mut bytes, 0);
+    Text { bytes, count }
 }

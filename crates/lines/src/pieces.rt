@@ -1,50 +1,61 @@
-// The words and lines that are put one after the other, each as a text.
+// The words and lines that are put one after the other into a buffer; the result is the place after each.
 ghost use mathlib.Core.Path.{_≡_};
 ghost use mathlib.Core.List.{_++_};
 ghost use Prim.Native.Nat.{_+_, _≤_, _<_};
 ghost use lib.ListN.{length};
 ghost use Rattle.answers.specs.Listing.{decimal, componentLabel};
 ghost use Rattle.answers.specs.Lines.{wordAt, nodeLabel, markLine, hexadecimalDigit, hexadecimalByte};
-ghost use Rattle.text.specs.Texts.{Holds, textOf};
-use text::Text;
+ghost use Rattle.text.specs.Texts.{Put};
+use text::byte;
+use text::decimal;
+use text::word;
 
 // Word i of a line.
-pub(crate) fn word_text(i: usize, w: u32) -> Text
-    ensures { λ r. ⌜ r ≡ textOf (wordAt i w) ⌝ }
+pub(crate) fn word_text(i: usize, w: u32, out: &mut [u8], at: usize) -> usize
+    requires { ⌜ at + 11 ≤ length (now out) ⌝ }
+    ensures { λ r. ⌜ Put (wordAt i w) at r (now (out .entry)) (now (out .exit)) ⌝ }
 {
-    let empty = Text::empty();
     if i == 0 {
-        return empty.decimal(w);
+        return decimal(w, out, at);
     }
-    empty.byte(b' ').decimal(w)
+    let spaced = byte(b' ', out, at);
+    decimal(w, out, spaced)
 }
 
 // A number after its label.
-fn labelled(text: Text, label: &[u8], v: u32) -> Text
-    requires { ⌜ text .count + length (now label) + 10 ≤ 2048 ⌝ }
-    ensures { λ r. ⌜ Holds text r (now (label .entry) ++ decimal v) ⌝ }
+fn labelled(label: &[u8], v: u32, out: &mut [u8], at: usize) -> usize
+    requires { ⌜ at + length (now label) + 10 ≤ length (now out) ⌝ }
+    ensures { λ r. ⌜ Put (now (label .entry) ++ decimal v) at r (now (out .entry)) (now (out .exit)) ⌝ }
 {
-    text.word(label).decimal(v)
+    let next = word(label, out, at);
+    decimal(v, out, next)
 }
 
 // "component 0 node 1".
-fn mark_label(c: u32, k: u32) -> Text
-    ensures { λ r. ⌜ r ≡ textOf (componentLabel ++ (decimal c ++ (nodeLabel ++ decimal k))) ⌝ }
+fn mark_label(c: u32, k: u32, out: &mut [u8], at: usize) -> usize
+    requires { ⌜ at + 36 ≤ length (now out) ⌝ }
+    ensures { λ r. ⌜ Put (componentLabel ++ (decimal c ++ (nodeLabel ++ decimal k))) at r (now (out .entry)) (now (out .exit)) ⌝ }
 {
-    let empty = Text::empty();
-    let component = labelled(empty, b"component ", c);
-    labelled(component, b" node ", k)
+    let component = labelled(b"component ", c, out, at);
+    labelled(b" node ", k, out, component)
 }
 
 // "component 0 node 1 PASS 0 FAIL 7".
-pub(crate) fn mark_text(c: usize, k: usize, pass: u32, fail: u32) -> Text
-    requires { ⌜ (c < 96) × (k < 96) ⌝ }
-    ensures { λ r. ⌜ r ≡ textOf (markLine c k pass fail) ⌝ }
+pub(crate) fn mark_text(
+    c: usize,
+    k: usize,
+    pass: u32,
+    fail: u32,
+    out: &mut [u8],
+    at: usize,
+) -> usize
+    requires { ⌜ (c < 96) × (k < 96) × (at + 69 ≤ length (now out)) ⌝ }
+    ensures { λ r. ⌜ Put (markLine c k pass fail) at r (now (out .entry)) (now (out .exit)) ⌝ }
 {
-    let label = mark_label(c as u32, k as u32);
-    let passed = labelled(label, b" PASS ", pass);
-    let failed = labelled(passed, b" FAIL ", fail);
-    failed.word(b"\n")
+    let label = mark_label(c as u32, k as u32, out, at);
+    let passed = labelled(b" PASS ", pass, out, label);
+    let failed = labelled(b" FAIL ", fail, out, passed);
+    byte(b'\n', out, failed)
 }
 
 // A hexadecimal digit.
@@ -59,10 +70,10 @@ fn digit(d: u8) -> u8
 }
 
 // A byte as two hexadecimal digits.
-pub(crate) fn byte_text(b: u8) -> Text
-    ensures { λ r. ⌜ r ≡ textOf (hexadecimalByte b) ⌝ }
+pub(crate) fn byte_text(b: u8, out: &mut [u8], at: usize) -> usize
+    requires { ⌜ at + 2 ≤ length (now out) ⌝ }
+    ensures { λ r. ⌜ Put (hexadecimalByte b) at r (now (out .entry)) (now (out .exit)) ⌝ }
 {
-    let empty = Text::empty();
-    let first = empty.byte(digit(b / 16));
-    first.byte(digit(b % 16))
+    let first = byte(digit(b / 16), out, at);
+    byte(digit(b % 16), out, first)
 }

@@ -4,7 +4,7 @@ use mathlib.Core.List.{List, [], _++_}
 use lib.ListN.{length, getD, take, drop, length-drop}
 use lib.Seq.{length-take-le, getD-take, getD-drop}
 use native.Mathlib.Omega.{arith}
-use Prim.Native.Nat.{ℕ, _+_, _*_, _≤_, _<_}
+use Prim.Native.Nat.{ℕ, _+_, _≤_, _<_}
 use Rattle.meaning.specs.Instrument as meaning
 use Rattle.meaning.specs.Instrument.{components, table}
 use Rattle.meaning.specs.File.Grammar.{Contents, instrumentOf}
@@ -15,7 +15,7 @@ use Rattle.answers.specs.Listing as listing
 use Rattle.answers.specs.Listing.{decimal, space, lineEnd, componentLabel, classesLabel, verdictLine, classLine, sizeLine, listingText}
 use Rattle.instrument.specs.declared.Instrument.{Instrument}
 use Rattle.instrument.specs.Described.{Describes}
-use Rattle.instrument.proofs.Bounds.{states-bounds}
+use Rattle.instrument.proofs.Bounds.{count-bounds, states-bounds}
 use Rattle.instrument.proofs.Tables.{table-count, table-states}
 use Rattle.partitions.specs.Classes.{classesOf}
 use Rattle.partitions.proofs.Classes.{described-name}
@@ -45,10 +45,17 @@ module _ (t : Instrument) (k : Contents) (d : Describes t k) where
   abbrev I : meaning.Instrument
   I = instrumentOf k
 
-  -- the class lines of its first components have at most 381 bytes each
-  pub described-short : (n : ℕ) (names : List (List ℕ)) → n ≤ t .components → length (classLines n (t .states) names) ≤ 381 * n
-  described-short n names h =
-      lines-short n (λ i. getD (t .states) i 0) (λ i x. getD (getD names i []) x 0) (λ i l. states-bounds t k d i (omega arith) .1)
+  pub described-few : (t .components ≤ 4) × ((i : ℕ) → i < t .components → getD (t .states) i 0 ≤ 32)
+  described-few = (count-bounds t k d .1, λ i l. states-bounds t k d i l .1)
+
+  -- its class lines have at most 381 bytes each
+  pub described-short : (names : List (List ℕ)) → length (classLines (t .components) (t .states) names) ≤ 1524
+  described-short names =
+      omega (
+        arith,
+        described-few .0,
+        lines-short (t .components) (λ i. getD (t .states) i 0) (λ i x. getD (getD names i []) x 0) (described-few .1),
+      )
 
   pub lines-same : (names : List (List ℕ)) → names ≡ classesOf I → classLines (t .components) (t .states) names ≡ listing.classLines I
   lines-same names e =

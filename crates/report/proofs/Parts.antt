@@ -1,36 +1,21 @@
--- Parts of a line put one after the other at the end of a text.
-use mathlib.Core.Path.{_≡_, sym, subst, ap, _∙_}
+-- Parts of a line put one after the other into a buffer.
+use mathlib.Core.Path.{_≡_, sym, ap, _∙_}
 use mathlib.Core.Bool.{Bool}
-use mathlib.Core.List.{List, [], _++_, append-assoc}
-use native.Mathlib.Numerals.{add-one}
-use Prim.Native.Nat.{ℕ, _+_}
-use Rattle.meaning.specs.Reference.Answers.{joinBelow}
+use mathlib.Core.List.{List, _++_, append-assoc}
+use Prim.Native.Nat.{ℕ}
 use Rattle.answers.specs.Listing.{decimal, refusedLabel, lineEnd, refusalLine}
-use Rattle.text.specs.declared.Text.{Text}
-use Rattle.text.specs.Texts.{textOf, Holds}
-use Rattle.text.proofs.Texts.{then}
+use Rattle.text.specs.Texts.{Put}
+use Rattle.text.proofs.Texts.{put-more, put-same}
 
 -- a part after three others
-pub then-after : {a b c : Text} (l m n : List ℕ) {o : List ℕ} → Holds a b (l ++ (m ++ n)) → Holds b c o → Holds a c (l ++ (m ++ (n ++ o)))
-then-after {a} {b} {c} l m n {o} h g =
-    subst (λ x. Holds a c x) (append-assoc l (m ++ n) o ∙ ap (λ x. l ++ x) (append-assoc m n o)) (then h g)
-
--- one part more of many
-pub joined-more : {a b c : Text} (f : ℕ → List ℕ) (i : ℕ) → Holds a b (joinBelow i f) → Holds b c (f i) → Holds a c (joinBelow (i + 1) f)
-joined-more {a} {b} {c} f i h g = rw (add-one i) (then h g)
+pub put-after : {a b c : List ℕ} {at i r : ℕ} (l m n : List ℕ) {o : List ℕ} → Put (l ++ (m ++ n)) at i a b → Put o i r b c
+    → Put (l ++ (m ++ (n ++ o))) at r a c
+put-after l m n {o} p q = put-same (append-assoc l (m ++ n) o ∙ ap (λ x. l ++ x) (append-assoc m n o)) (put-more p q)
 
 -- a word chosen by a flag
-pub by-flag : {a b : Text} (word : Bool → List ℕ) (h f : Bool) → h ≡ f → Holds a b (word f) → Holds a b (word h)
-by-flag {a} {b} word h f e g = subst (λ x. Holds a b (word x)) (sym e) g
+pub by-flag : {a b : List ℕ} {at r : ℕ} (word : Bool → List ℕ) (h f : Bool) → h ≡ f → Put (word f) at r a b → Put (word h) at r a b
+by-flag word h f e p = put-same (ap word (sym e)) p
 
-pub refusal-is : {a b : Text} (r : ℕ) → Holds a b (refusedLabel ++ (decimal r ++ lineEnd)) → Holds a b (refusalLine r)
+pub refusal-is : {a b : List ℕ} {at i : ℕ} (r : ℕ) → Put (refusedLabel ++ (decimal r ++ lineEnd)) at i a b → Put (refusalLine r) at i a b
 unfolding refusalLine
-refusal-is r h = h
-
--- in a text that was empty
-pub empty-count : (t : Text) → t ≡ textOf [] → t .count ≡ 0
-unfolding textOf
-empty-count t e = ap (λ u. u .count) e
-
-pub from-empty : {a b : Text} (l : List ℕ) → a ≡ textOf [] → Holds a b l → b ≡ textOf l
-from-empty l e h = h .text [] e
+refusal-is r p = p

@@ -1,2 +1,4 @@
 -- what the public contracts say
 pub mod Report
+-- how far the loops are
+pub mod Appending

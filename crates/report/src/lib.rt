@@ -33,10 +33,12 @@ pub fn listing_text(
     requires { ⌜ ((k : Contents) × Listed t names merged full k) ⌝ }
     ensures { λ r. ⌜ ((k : Contents) → Listed t names merged full k → r ≡ textOf (listingText (instrumentOf k) (judgementFrom holds «by_marks»))) ⌝ }
 {
-    let empty = Text::empty();
-    let judged = verdict_line(empty, holds, by_marks);
-    let named = class_lines(judged, t, names);
-    size_line(named, merged as u32, full as u32)
+    let mut bytes = [0u8; 2048];
+    let judged = verdict_line(holds, by_marks, &mut bytes, 0);
+    let states = t.states;
+    let named = class_lines(t.components as usize, states, names, &mut bytes, judged);
+    let count = size_line(merged as u32, full as u32, &mut bytes, named);
+    Text { bytes, count }
 }
 
 // The class names of every component alone.
@@ -44,16 +46,19 @@ pub fn class_text(t: Instrument, names: [[u8; 32]; 4]) -> Text
     requires { ⌜ ((k : Contents) × Describes t k) ⌝ }
     ensures { λ r. ⌜ ((k : Contents) → Describes t k → names ≡ classesOf (instrumentOf k) → r ≡ textOf (classLines (instrumentOf k))) ⌝ }
 {
-    let empty = Text::empty();
-    class_lines(empty, t, names)
+    let mut bytes = [0u8; 2048];
+    let states = t.states;
+    let count = class_lines(t.components as usize, states, names, &mut bytes, 0);
+    Text { bytes, count }
 }
 
 // The one line of a refusal.
 pub fn refusal_text(number: u32) -> Text
     ensures { λ r. ⌜ r ≡ textOf (refusalLine number) ⌝ }
 {
-    let empty = Text::empty();
-    refusal_line(empty, number)
+    let mut bytes = [0u8; 2048];
+    let count = refusal_line(number, &mut bytes, 0);
+    Text { bytes, count }
 }
 
 // The bytes of a text copied into a buffer from a place on; the place after them.

@@ -1,54 +1,54 @@
--- Texts grow at their end.
+-- Bytes put into a buffer one after the other, and a text by value.
 use mathlib.Core.Path.{_≡_, refl, sym, subst, ap, ap₂, _∙_}
 use mathlib.Core.Bool.{Bool, true, false, cond}
-use mathlib.Core.List.{List, [], _∷_, _++_, append-assoc, append-nil}
+use mathlib.Core.List.{List, [], _∷_, _++_}
 use lib.Dec.{ltb}
 use borrow.Author.Tests.{lt-ltb, le-ltb}
 use lib.ListN.{length, getD, set, replicate, take, length-append}
-use lib.Seq.{sets, take-suc, length-take-le}
-use native.Mathlib.Nat.{zero-add}
+use lib.Seq.{sets, take-suc, length-sets}
 use native.Mathlib.Omega.{arith}
 use Prim.Native.Nat.{ℕ, zero, suc, _+_, _-_, _/_, _%_, _≤_, _<_}
 use Rattle.meaning.proofs.Basic.Entries.{sets-append}
 use Rattle.answers.specs.Listing.{digitsOf, decimal}
-use Rattle.text.specs.declared.Text.{Text}
-use Rattle.text.specs.Texts.{textOf, Holds}
+use Rattle.text.specs.Texts.{textOf, Put}
 
-pub empty-is : record { bytes = replicate 2048 0; count = 0 } ≡ textOf []
-unfolding textOf
-empty-is = refl
+pub put-none : (at : ℕ) (old : List ℕ) → Put [] at at old old
+put-none at old = record { after = omega arith; buffer = refl }
 
-pub same : (t : Text) → Holds t t []
-same t = record { count = omega arith; text = λ k e. e ∙ ap textOf (sym (append-nil k)) }
+pub put-one : (b at : ℕ) (old : List ℕ) → Put (b ∷ []) at (at + 1) old (set old at b)
+put-one b at old = record { after = refl; buffer = refl }
 
-pub one : (t : Text) (b : ℕ) → Holds t (record { bytes = set (t .bytes) (t .count) b; count = t .count + 1 }) (b ∷ [])
-unfolding textOf
-one t b =
+-- bytes after bytes
+pub put-more : {l k a b c : List ℕ} {at m r : ℕ} → Put l at m a b → Put k m r b c → Put (l ++ k) at r a c
+put-more {l} {k} {a} {b} {c} {at} {m} {r} p q =
     record {
-      count = refl;
-      text = λ k e.
-          rw e
-          (ap₂ (λ l c. record { bytes = l; count = c })
-          (sym (sets-append k (b ∷ []) (replicate 2048 0) 0 ∙ ap (λ i. set (sets (replicate 2048 0) 0 k) i b) (zero-add (length k))))
-          (sym (length-append k (b ∷ []))));
+      after = omega (arith, p .after, q .after, length-append l k);
+      buffer = q .buffer ∙ ap₂ (λ x i. sets x i k) (p .buffer) (p .after) ∙ sym (sets-append l k a at);
     }
 
-pub then : {a b c : Text} {l m : List ℕ} → Holds a b l → Holds b c m → Holds a c (l ++ m)
-then {a} {b} {c} {l} {m} h g =
-    record {
-      count = omega (arith, h .count, g .count, length-append l m);
-      text = λ k e. g .text (k ++ l) (h .text k e) ∙ ap textOf (append-assoc k l m);
-    }
+pub put-length : {l old new : List ℕ} {at r : ℕ} → Put l at r old new → length new ≡ length old
+put-length {l} {old} {new} {at} {r} p = ap length (p .buffer) ∙ length-sets old at l
+
+pub put-same : {l k old new : List ℕ} {at r : ℕ} → l ≡ k → Put l at r old new → Put k at r old new
+put-same {l} {k} {old} {new} {at} {r} e p = subst (λ x. Put x at r old new) e p
+
+-- in an array of zeros: a text
+pub put-text : {l bytes : List ℕ} {n : ℕ} → Put l 0 n (replicate 2048 0) bytes → record { bytes = bytes; count = n } ≡ textOf l
+unfolding textOf
+put-text {l} {bytes} {n} p =
+    let c : n ≡ length l = omega (arith, p .after) in
+    ap₂ (λ b k. record { bytes = b; count = k }) (p .buffer) c
 
 -- the bytes of a word, one after the other
-pub taken : {t u : Text} (v : Text) (w : List ℕ) (i : ℕ) → i < length w → Holds t u (take i w) → Holds u v (getD w i 0 ∷ [])
-    → Holds t v (take (i + 1) w)
-taken {t} v w i l h g =
-    let e : suc i ≡ i + 1 = omega arith in
-    subst (λ x. Holds t v x) (sym (take-suc w i 0 l) ∙ ap (λ j. take j w) e) (then h g)
+pub taken-none : (w : List ℕ) (at : ℕ) (old : List ℕ) → Put (take 0 w) at (at + 0) old old
+taken-none w at old = record { after = refl; buffer = refl }
 
-pub taken-count : {t u : Text} (w : List ℕ) (i : ℕ) → Holds t u (take i w) → i ≤ length w → u .count ≡ t .count + i
-taken-count w i h l = omega (arith, h .count, length-take-le i w l)
+pub taken : {old new : List ℕ} {at : ℕ} (w : List ℕ) (i : ℕ) → i < length w → Put (take i w) at (at + i) old new
+    → Put (take (i + 1) w) at (at + (i + 1)) old (set new (at + i) (getD w i 0))
+taken {old} {new} {at} w i l p =
+    let e : suc i ≡ i + 1 = omega arith in
+    let s : at + i + 1 ≡ at + (i + 1) = omega arith in
+    rw s at (put-same (sym (take-suc w i 0 l) ∙ ap (λ j. take j w) e) (put-more p (put-one (getD w i 0) (at + i) new)))
 
 -- the digits of a number, its last one at the end
 pub digits-none : (places v : ℕ) → places ≡ 0 → digitsOf places v ≡ []
@@ -81,9 +81,9 @@ digits-length (suc places) v =
     )
 
 -- ten places
-pub ten : {t u : Text} (v : ℕ) → Holds t u (digitsOf 10 v) → Holds t u (decimal v)
+pub ten : {old new : List ℕ} {at r : ℕ} (v : ℕ) → Put (digitsOf 10 v) at r old new → Put (decimal v) at r old new
 unfolding decimal
-ten v h = h
+ten v p = p
 
 pub decimal-length : (v : ℕ) → length (decimal v) ≤ 10
 unfolding decimal

@@ -1,6 +1,6 @@
--- A text by value: the bytes, and how many there are.
+-- A text by value, and bytes put into a buffer.
 use mathlib.Core.Path.{_≡_}
-use mathlib.Core.List.{List, _++_}
+use mathlib.Core.List.{List}
 use lib.ListN.{length, replicate}
 use lib.Seq.{sets}
 use Prim.Native.Nat.{ℕ, _+_}
@@ -10,7 +10,7 @@ use Rattle.text.specs.declared.Text.{Text}
 unfoldable pub textOf : List ℕ → Text
 textOf l = record { bytes = sets (replicate 2048 0) 0 l; count = length l }
 
--- new is old with these bytes after its own
-pub record Holds (old new : Text) (l : List ℕ) : Type 0 where
-  pub count : new .count ≡ old .count + length l
-  pub text : (k : List ℕ) → old ≡ textOf k → new ≡ textOf (k ++ l)
+-- these bytes were put into a buffer from a place on, and the result is the place after them
+pub record Put (l : List ℕ) (at result : ℕ) (old new : List ℕ) : Type 0 where
+  pub after : result ≡ at + length l
+  pub buffer : new ≡ sets old at l

@@ -1,10 +1,10 @@
-// Text made piece by piece, by value: bytes and how many of them there are.
+// Text put piece by piece into a lent buffer, and a text by value: bytes and how many of them there are.
 ghost use mathlib.Core.Path.{_≡_};
 ghost use mathlib.Core.List.{[], _∷_};
 ghost use Prim.Native.Nat.{_+_, _≤_};
 ghost use lib.ListN.{length};
 ghost use Rattle.answers.specs.Listing.{decimal, digitsOf};
-ghost use Rattle.text.specs.Texts.{Holds, textOf};
+ghost use Rattle.text.specs.Texts.{Put, textOf};
 
 // The first `count` bytes are the text; the others are 0.
 pub struct Text {
@@ -13,64 +13,59 @@ pub struct Text {
 }
 
 impl Text {
-    // No byte.
-    pub fn empty() -> Self
-        ensures { λ r. ⌜ r ≡ textOf [] ⌝ }
+    // The bytes of a word alone.
+    pub fn of_word(w: &[u8]) -> Self
+        requires { ⌜ length (now w) ≤ 2048 ⌝ }
+        ensures { λ r. ⌜ r ≡ textOf (now (w .entry)) ⌝ }
     {
-        Text {
-            bytes: [0u8; 2048],
-            count: 0,
-        }
-    }
-
-    // One byte more.
-    pub fn byte(self, b: u8) -> Self
-        requires { ⌜ self .count + 1 ≤ 2048 ⌝ }
-        ensures { λ r. ⌜ Holds self r (b ∷ []) ⌝ }
-    {
-        let mut bytes = self.bytes;
-        let at = self.count;
-        bytes[at] = b;
-        Text {
-            bytes,
-            count: at + 1,
-        }
-    }
-
-    // The bytes of a word.
-    pub fn word(self, w: &[u8]) -> Self
-        requires { ⌜ self .count + length (now w) ≤ 2048 ⌝ }
-        ensures { λ r. ⌜ Holds self r (now (w .entry)) ⌝ }
-    {
-        let mut t = self;
-        let mut i: usize = 0;
-        while i < w.len() {
-            t = t.byte(w[i]);
-            i += 1;
-        }
-        t
-    }
-
-    // A number in decimal digits.
-    pub fn decimal(self, v: u32) -> Self
-        requires { ⌜ self .count + 10 ≤ 2048 ⌝ }
-        ensures { λ r. ⌜ Holds self r (decimal v) ⌝ }
-    {
-        digits(self, 10, v)
+        let mut bytes = [0u8; 2048];
+        let count = word(w, &mut bytes, 0);
+        Text { bytes, count }
     }
 }
 
+// One byte at a place of the buffer; the place after it.
+pub fn byte(b: u8, out: &mut [u8], at: usize) -> usize
+    requires { ⌜ at + 1 ≤ length (now out) ⌝ }
+    ensures { λ r. ⌜ Put (b ∷ []) at r (now (out .entry)) (now (out .exit)) ⌝ }
+{
+    out[at] = b;
+    at + 1
+}
+
+// The bytes of a word.
+pub fn word(w: &[u8], out: &mut [u8], at: usize) -> usize
+    requires { ⌜ at + length (now w) ≤ length (now out) ⌝ }
+    ensures { λ r. ⌜ Put (now (w .entry)) at r (now (out .entry)) (now (out .exit)) ⌝ }
+{
+    let mut i: usize = 0;
+    while i < w.len() {
+        out[at + i] = w[i];
+        i += 1;
+    }
+    at + i
+}
+
+// A number in decimal digits.
+pub fn decimal(v: u32, out: &mut [u8], at: usize) -> usize
+    requires { ⌜ at + 10 ≤ length (now out) ⌝ }
+    ensures { λ r. ⌜ Put (decimal v) at r (now (out .entry)) (now (out .exit)) ⌝ }
+{
+    digits(10, v, out, at)
+}
+
 // The digits of v, at most so many places.
-fn digits(t: Text, places: u32, v: u32) -> Text
-    requires { ⌜ (places ≤ 10) × (t .count + places ≤ 2048) ⌝ }
-    ensures { λ r. ⌜ Holds t r (digitsOf places v) ⌝ }
+fn digits(places: u32, v: u32, out: &mut [u8], at: usize) -> usize
+    requires { ⌜ (places ≤ 10) × (at + places ≤ length (now out)) ⌝ }
+    ensures { λ r. ⌜ Put (digitsOf places v) at r (now (out .entry)) (now (out .exit)) ⌝ }
 {
     if places == 0 {
-        return t;
+        return at;
     }
     let d = (48 + v % 10) as u8;
     if v < 10 {
-        return t.byte(d);
+        return byte(d, out, at);
     }
-    digits(t, places - 1, v / 10).byte(d)
+    let high = digits(places - 1, v / 10, out, at);
+    byte(d, out, high)
 }

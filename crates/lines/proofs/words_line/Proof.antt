@@ -1,15 +1,15 @@
 use mathlib.Core.List.{List}
-use mathlib.Core.Path.{_∙_}
 use native.Mathlib.Omega.{arith}
-use lib.ListN.{length, getD, length-set}
-use Prim.Native.Nat.{ℕ, _-_, _<_}
-use borrow.Author.Needs.{needs}
+use lib.ListN.{length, getD}
+use Prim.Native.Nat.{ℕ, _-_}
 use Rattle.answers.specs.Lines.{wordAt}
-use Rattle.report.specs.Report.{Spelled}
-use Rattle.lines.specs.Progress.{Appending}
+use Rattle.meaning.specs.Reference.Answers.{joinBelow}
+use Rattle.text.specs.Texts.{Put}
+use Rattle.text.proofs.Texts.{put-length}
+use Rattle.report.specs.Appending.{Appending}
+use Rattle.report.proofs.Appending.{appending-start, appending-room, appending-more, appending-end}
 use Rattle.lines.proofs.Lengths.{word-short, words-short}
-use Rattle.lines.proofs.Appending.{appending-start, appending-ready, appending-more, last-place, appending-line}
-use Rattle.lines.proofs.Parts.{spelled}
+use Rattle.lines.proofs.Making.{line-made}
 use Rattle.lines.proofs.words_line.Statement.{statement}
 use Rattle.lines.proofs.words_line.Tie as tie
 
@@ -17,74 +17,49 @@ abbrev piece : List ℕ → ℕ → List ℕ
 piece words i = wordAt i (getD words i 0)
 
 abbrev Inv-loop : tie.InvT-loop
-Inv-loop words out₀ at₀ i₀ out at i = Appending out₀ (length words) (piece words) i at out
+Inv-loop words out₀ at₀ i₀ out at i = Appending (length words) (piece words) 0 out₀ i at out
 
 abbrev μ-loop : tie.MeasureT-loop
 μ-loop words out₀ at₀ i₀ out at i = length words - i
 
 loop-holds : tie.Need-loop-holds Inv-loop μ-loop
-loop-holds c = appending-start _ _ _
-
-mul-word-text : tie.Need-mul-word-text Inv-loop μ-loop
-mul-word-text c = omega arith
-
-shared-slice-read-word-text : tie.Need-shared-slice-read-word-text Inv-loop μ-loop
-shared-slice-read-word-text c = omega arith
+loop-holds c = appending-start _ _ _ _
 
 word-text-requires : tie.Need-word-text-requires Inv-loop μ-loop
-word-text-requires c κs = search needs
-
--- the text is piece i
-made : (c : tie.After-word-text Inv-loop μ-loop)
-    → let l = c .before .before .before in Spelled (c .word-text .result) (piece (l .before .before .before .args .words .now) (l .loop .i))
-made c =
+word-text-requires c κs =
     let l = c .before .before .before in
-    let ws = l .before .before .before .args .words .now in
-    spelled (c .word-text .result) (piece ws (l .loop .i)) (c .word-text .ensures) (omega (arith, word-short (l .loop .i) (getD ws (l .loop .i) 0)))
-
-append-requires : tie.Need-append-requires Inv-loop μ-loop
-append-requires c κs =
-    let l = c .before .before .before .before in
     let s = l .before .before .before in
     let ws = s .args .words .now in
-    appending-ready _ _ (piece ws) (l .loop .i) (l .loop .at) _ _ (omega arith) (omega (arith, words-short ws, s .pre)) (made (c .before)) (l .loop .inv)
-
-add-i : tie.Need-add-i Inv-loop μ-loop
-add-i c = omega arith
-
-loop-less : tie.Need-loop-less Inv-loop μ-loop
-loop-less c = omega arith
+    appending-room (length ws) (piece ws) 0 (s .args .out .now) 11 (l .loop .i) (l .loop .at) (l .loop .out) (λ x h. word-short x (getD ws x 0)) (omega (arith, s .pre))
+    (omega arith) (l .loop .inv)
 
 loop-again : tie.Need-loop-again Inv-loop μ-loop
 loop-again c =
-    let l = c .before .before .before .before .before .before .before in
-    let a = c .before .before .append .ensures in
-    appending-more _ _ (piece (l .before .before .before .args .words .now)) (l .loop .i) (l .loop .at) _ _ _ _ (omega arith)
-    (made (c .before .before .before .before)) (a .0) (a .1) (l .loop .inv)
+    let l = c .before .before .before .before .before .before in
+    appending-more _ (piece (l .before .before .before .args .words .now)) _ _ (l .loop .i) _ _ _ _ (omega arith) (c .before .before .word-text .ensures)
+    (l .loop .inv)
 
--- the line end has room
-ended : (c : tie.After-loop Inv-loop μ-loop) → c .before .loop .at < length (c .before .loop .out)
+-- all pieces
+ended : (c : tie.After-loop Inv-loop μ-loop)
+    → let l = c .before in
+    let a = l .before .before .before .args in
+    Put (joinBelow (length (a .words .now)) (piece (a .words .now))) 0 (l .loop .at) (a .out .now) (l .loop .out)
 ended c =
     let l = c .before in
-    let s = l .before .before .before in
+    appending-end _ (piece (l .before .before .before .args .words .now)) _ _ (l .loop .i) _ _ (omega arith) (l .loop .inv)
+
+byte-requires : tie.Need-byte-requires Inv-loop μ-loop
+byte-requires c κs =
+    let s = c .before .before .before .before .before in
     let ws = s .args .words .now in
-    last-place _ _ (piece ws) (l .loop .i) (l .loop .at) _ (omega arith) (omega (arith, words-short ws, s .pre)) (l .loop .inv)
-
-slice-write-out : tie.Need-slice-write-out Inv-loop μ-loop
-slice-write-out c = ended c
-
-add-result : tie.Need-add-result Inv-loop μ-loop
-add-result c = omega (arith, ended c, c .before .loop .inv .written .long)
-
-same-length : tie.Need-same-length Inv-loop μ-loop
-same-length c = length-set (c .before .loop .out) (c .before .loop .at) 10 ∙ c .before .loop .inv .written .long
+    let p = ended (c .before) in
+    omega (arith, p .after, put-length p, words-short ws, s .pre)
 
 returns : tie.Need-returns Inv-loop μ-loop
 returns c =
-    let l = c .before in
-    let s = l .before .before .before in
+    let s = c .before .before .before .before .before .before .before .before in
     let ws = s .args .words .now in
-    appending-line _ _ (piece ws) (l .loop .i) (l .loop .at) _ (omega arith) (omega (arith, words-short ws, s .pre)) (l .loop .inv)
+    line-made (omega (arith, s .pre, words-short ws)) (ended (c .before .before .before .before)) (c .before .before .byte .ensures)
 
 pub words-line-spec : {M : Type 1} → statement M
 words-line-spec =
@@ -93,14 +68,12 @@ words-line-spec =
     Inv-loop
     μ-loop
     loop-holds
-    mul-word-text
-    shared-slice-read-word-text
+    (λ c. omega arith)
+    (λ c. omega arith)
     word-text-requires
-    append-requires
-    add-i
-    loop-less
+    (λ c. omega arith)
+    (λ c. omega arith)
     loop-again
-    slice-write-out
-    add-result
-    same-length
+    byte-requires
+    (λ c. omega (arith, put-length (c .before .before .byte .ensures), put-length (ended (c .before .before .before .before))))
     returns)

@@ -1,19 +1,21 @@
-use mathlib.Core.Path.{ap, _∙_}
 use native.Mathlib.Omega.{arith}
+use mathlib.Core.Path.{ap, _∙_}
 use borrow.Author.Needs.{needs}
 use Rattle.text.specs.Texts.{textOf}
-use Rattle.report.proofs.Parts.{empty-count, from-empty}
-use Rattle.report.proofs.Listings.{lines-same}
+use Rattle.text.proofs.Texts.{put-text}
+use Rattle.report.proofs.Listings.{described-few, lines-same}
 use Rattle.report.proofs.class_text.Statement.{statement}
 use Rattle.report.proofs.class_text.Tie as tie
 
 class-lines-requires : tie.Need-class-lines-requires
-class-lines-requires c κs = (c .before .pre, omega (arith, empty-count (c .empty .result) (c .empty .ensures)))
+class-lines-requires c κs =
+    let s = c .before .before .before in
+    let few = described-few (s .args .t) (s .pre .0) (s .pre .1) in (few .0, few .1, omega arith)
 
 returns : tie.Need-returns
 returns c =
     λ k d e.
-    from-empty _ (c .before .empty .ensures) (c .class-lines .ensures) ∙ ap textOf (lines-same (c .before .before .args .t) k d _ e)
+    put-text (c .before .class-lines .ensures) ∙ ap textOf (lines-same (c .before .before .before .before .before .args .t) k d _ e)
 
 pub class-text-spec : {M : Type 1} → statement M
-class-text-spec = tie.close (tie.spec (λ c κs. search needs) class-lines-requires returns)
+class-text-spec = tie.close (tie.spec (λ c. search needs) (λ c. search needs) class-lines-requires returns)

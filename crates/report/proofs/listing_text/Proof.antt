@@ -1,32 +1,27 @@
 use native.Mathlib.Omega.{arith}
-use Prim.Native.Nat.{_≤_}
 use mathlib.Core.Path.{_∙_, ap}
+use Prim.Native.Nat.{_≤_}
 use borrow.Author.Needs.{needs}
-use Rattle.instrument.proofs.Bounds.{count-bounds}
 use Rattle.text.specs.Texts.{textOf}
-use Rattle.text.proofs.Texts.{then}
+use Rattle.text.proofs.Texts.{put-more, put-text, put-length}
 use Rattle.report.specs.Report.{judgementFrom}
 use Rattle.report.proofs.Lengths.{verdict-line-short}
-use Rattle.report.proofs.Parts.{empty-count, from-empty}
 use Rattle.report.proofs.Sizes.{merged-few, full-few}
-use Rattle.report.proofs.Listings.{described-short, listing-same}
+use Rattle.report.proofs.Listings.{described-few, described-short, listing-same}
 use Rattle.report.proofs.listing_text.Statement.{statement}
 use Rattle.report.proofs.listing_text.Tie as tie
 
-empty-requires : tie.Need-empty-requires
-empty-requires c κs = search needs
-
-verdict-line-requires : tie.Need-verdict-line-requires
-verdict-line-requires c κs = omega (arith, empty-count (c .empty .result) (c .empty .ensures))
-
 class-lines-requires : tie.Need-class-lines-requires
 class-lines-requires c κs =
-    let s = c .before .before in (
-      (s .pre .0, s .pre .1 .describes),
+    let v = c .before .before .before .before in
+    let s = v .before .before in
+    let few = described-few (s .args .t) (s .pre .0) (s .pre .1 .describes) in (
+      few .0,
+      few .1,
       omega (
         arith,
-        empty-count (c .before .empty .result) (c .before .empty .ensures),
-        c .verdict-line .ensures .count,
+        v .verdict-line .ensures .after,
+        put-length (v .verdict-line .ensures),
         verdict-line-short (judgementFrom (s .args .holds) (s .args .by-marks)),
       ),
     )
@@ -37,43 +32,40 @@ few s =
     let h = s .pre .1 in
     (rw (h .mergedIs) (merged-few k (h .describes .promised)), rw (h .fullIs) (full-few k (h .describes .promised)))
 
-cast-size-line : tie.Need-cast-size-line
-cast-size-line c = omega (arith, few (c .before .before .before))
-
-cast-size-line-2 : tie.Need-cast-size-line-2
-cast-size-line-2 c = omega (arith, few (c .before .before .before))
-
 size-line-requires : tie.Need-size-line-requires
 size-line-requires c κs =
-    let s = c .before .before .before in
-    let d = s .pre .1 .describes in
-    let n = s .args .t .components in
+    let v = c .before .before .before .before .before .before .before in
+    let s = v .before .before in
+    let l = c .before .before .class-lines .ensures in
     omega (
       arith,
-      empty-count (c .before .before .empty .result) (c .before .before .empty .ensures),
-      c .before .verdict-line .ensures .count,
+      v .verdict-line .ensures .after,
+      put-length (v .verdict-line .ensures),
       verdict-line-short (judgementFrom (s .args .holds) (s .args .by-marks)),
-      c .class-lines .ensures .count,
-      count-bounds (s .args .t) (s .pre .0) d .1,
-      described-short (s .args .t) (s .pre .0) d n (s .args .names) (omega arith),
+      l .after,
+      put-length l,
+      described-short (s .args .t) (s .pre .0) (s .pre .1 .describes) (s .args .names),
     )
 
 returns : tie.Need-returns
 returns c =
     λ k h.
-    let s = c .before .before .before .before in
-    from-empty _ (c .before .before .before .empty .ensures)
-    (then (c .before .before .verdict-line .ensures) (then (c .before .class-lines .ensures) (c .size-line .ensures)))
-    ∙ ap textOf (listing-same (s .args .t) (s .args .names) _ _ k h (judgementFrom (s .args .holds) (s .args .by-marks)))
+    let v = c .before .before .before .before .before .before .before .before .before in
+    let a = v .before .before .args in
+    put-text (put-more (v .verdict-line .ensures) (put-more (c .before .before .before .before .class-lines .ensures) (c .before .size-line .ensures)))
+    ∙ ap textOf (listing-same (a .t) (a .names) _ _ k h (judgementFrom (a .holds) (a .by-marks)))
 
 pub listing-text-spec : {M : Type 1} → statement M
 listing-text-spec =
     tie.close
     (tie.spec
-    empty-requires
-    verdict-line-requires
+    (λ c. search needs)
+    (λ c κs. search needs)
+    (λ c. search needs)
+    (λ c. search needs)
     class-lines-requires
-    cast-size-line
-    cast-size-line-2
+    (λ c. omega (arith, few (c .before .before .before .before .before .before .before .before)))
+    (λ c. omega (arith, few (c .before .before .before .before .before .before .before .before)))
+    (λ c. search needs)
     size-line-requires
     returns)

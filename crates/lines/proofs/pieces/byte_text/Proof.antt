@@ -1,42 +1,24 @@
-use mathlib.Core.Path.{ap₂, _∙_}
+use mathlib.Core.Path.{ap₂}
 use mathlib.Core.List.{[], _∷_}
 use native.Mathlib.Omega.{arith}
 use borrow.Author.Needs.{needs}
-use Rattle.text.specs.Texts.{textOf}
-use Rattle.text.proofs.Texts.{then}
-use Rattle.report.proofs.Parts.{empty-count, from-empty}
+use Rattle.text.proofs.Texts.{put-more, put-same}
 use Rattle.lines.proofs.pieces.byte_text.Statement.{statement}
 use Rattle.lines.proofs.pieces.byte_text.Tie as tie
 
-empty-requires : tie.Need-empty-requires
-empty-requires c κs = search needs
-
-digit-requires : tie.Need-digit-requires
-digit-requires c κs = omega arith
-
-byte-requires : tie.Need-byte-requires
-byte-requires c κs = let e = c .before .empty in omega (arith, empty-count (e .result) (e .ensures))
-
-digit-requires-2 : tie.Need-digit-requires-2
-digit-requires-2 c κs = omega arith
-
-byte-requires-2 : tie.Need-byte-requires-2
-byte-requires-2 c κs =
-    let e = c .before .before .before .empty in
-    omega (arith, empty-count (e .result) (e .ensures), c .before .byte .ensures .count)
-
 returns : tie.Need-returns
 returns c =
-    from-empty _ (c .before .before .before .before .empty .ensures) (then (c .before .before .byte .ensures) (c .byte2 .ensures))
-    ∙ ap₂ (λ a b. textOf (a ∷ b ∷ [])) (c .before .before .before .digit .ensures) (c .before .digit2 .ensures)
+    let first = c .before .before .before .before .before .before .before in
+    put-same (ap₂ (λ a b. a ∷ b ∷ []) (first .before .before .digit .ensures) (c .before .before .before .before .digit2 .ensures))
+    (put-more (first .byte .ensures) (c .before .before .byte2 .ensures))
 
 pub byte-text-spec : {M : Type 1} → statement M
 byte-text-spec =
     tie.close
     (tie.spec
-    empty-requires
-    digit-requires
-    byte-requires
-    digit-requires-2
-    byte-requires-2
+    (λ c κs. omega arith)
+    (λ c κs. search needs)
+    (λ c κs. omega arith)
+    (λ c κs. search needs)
+    (λ c. search needs)
     returns)

@@ -1,16 +1,10 @@
 use borrow.Author.Needs.{needs}
-use Rattle.text.proofs.Texts.{then}
+use Rattle.text.proofs.Texts.{put-more}
 use Rattle.lines.proofs.pieces.labelled.Statement.{statement}
 use Rattle.lines.proofs.pieces.labelled.Tie as tie
 
-word-requires : tie.Need-word-requires
-word-requires c κs = search needs
-
-decimal-requires : tie.Need-decimal-requires
-decimal-requires c κs = search needs
-
 returns : tie.Need-returns
-returns c = then (c .before .word .ensures) (c .decimal .ensures)
+returns c = put-more (c .before .before .before .before .before .before .word .ensures) (c .before .before .decimal .ensures)
 
 pub labelled-spec : {M : Type 1} → statement M
-labelled-spec = tie.close (tie.spec word-requires decimal-requires returns)
+labelled-spec = tie.close (tie.spec (λ c κs. search needs) (λ c κs. search needs) (λ c. search needs) returns)

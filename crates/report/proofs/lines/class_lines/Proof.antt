@@ -1,74 +1,49 @@
+use mathlib.Core.List.{List, []}
 use native.Mathlib.Omega.{arith}
-use mathlib.Core.Path.{_≡_}
-use mathlib.Core.List.{[]}
 use lib.ListN.{getD}
-use Prim.Native.Nat.{_-_, _≤_}
-use borrow.Author.Needs.{needs}
+use Prim.Native.Nat.{ℕ, _-_}
 use Rattle.answers.specs.Listing.{classLine}
-use Rattle.instrument.proofs.Bounds.{count-bounds}
-use Rattle.text.specs.Texts.{Holds}
-use Rattle.text.proofs.Texts.{same}
-use Rattle.report.specs.Report.{classLines}
-use Rattle.report.proofs.Listings.{described-short}
-use Rattle.report.proofs.Parts.{joined-more}
+use Rattle.text.proofs.Texts.{put-length}
+use Rattle.report.specs.Appending.{Appending}
+use Rattle.report.proofs.Lengths.{class-line-short}
+use Rattle.report.proofs.Appending.{appending-start, appending-room, appending-more, appending-end}
 use Rattle.report.proofs.lines.class_lines.Statement.{statement}
 use Rattle.report.proofs.lines.class_lines.Tie as tie
 
+abbrev piece : List ℕ → List (List ℕ) → ℕ → List ℕ
+piece states names i = classLine i (getD states i 0) (λ x. getD (getD names i []) x 0)
+
 abbrev Inv-loop : tie.InvT-loop
-Inv-loop t names n result₀ c₀ result c = (c ≤ n) × Holds result₀ result (classLines c (t .states) names)
+Inv-loop components out₀ at states names next₀ c₀ out next c = Appending components (piece states names) next₀ out₀ c next out
 
 abbrev μ-loop : tie.MeasureT-loop
-μ-loop t names n result₀ c₀ result c = n - c
-
-few : (s : tie.Start Inv-loop μ-loop) → s .args .t .components ≤ 4
-few s = count-bounds (s .args .t) (s .pre .0 .0) (s .pre .0 .1) .1
-
-cast-n : tie.Need-cast-n Inv-loop μ-loop
-cast-n c = search needs
+μ-loop components out₀ at states names next₀ c₀ out next c = components - c
 
 loop-holds : tie.Need-loop-holds Inv-loop μ-loop
-loop-holds c = (omega arith, same _)
-
-mul-component-line : tie.Need-mul-component-line Inv-loop μ-loop
-mul-component-line c = omega (arith, few (c .before .before .before))
-
-array-copy-out-component-line : tie.Need-array-copy-out-component-line Inv-loop μ-loop
-array-copy-out-component-line c = omega (arith, few (c .before .before .before))
+loop-holds c = appending-start _ _ _ _
 
 component-line-requires : tie.Need-component-line-requires Inv-loop μ-loop
 component-line-requires c κs =
-    let l = c .before .before in
-    let s = l .before .before in (
-      s .pre .0,
-      omega (arith, c .before .loop-test .taken),
-      omega (
-        arith,
-        few s,
-        s .pre .1,
-        l .loop .inv .1 .count,
-        described-short (s .args .t) (s .pre .0 .0) (s .pre .0 .1) (l .loop .c) (s .args .t3) (l .loop .inv .0),
-      ),
+    let l = c .before .before .before in
+    let s = l .before .before in
+    let few = s .pre .1 in (
+      omega (arith, s .pre .0),
+      few (l .loop .c) (omega arith),
+      appending-room (s .args .components) (piece (s .args .t2) (s .args .t3)) (s .args .at) (s .args .out .now) 381 (l .loop .c) (l .loop .next)
+          (l .loop .out) (λ i h. class-line-short i _ _ (few i h)) (omega (arith, s .pre)) (omega arith) (l .loop .inv),
     )
-
-add-c : tie.Need-add-c Inv-loop μ-loop
-add-c c = omega arith
-
-loop-less : tie.Need-loop-less Inv-loop μ-loop
-loop-less c = omega arith
 
 loop-again : tie.Need-loop-again Inv-loop μ-loop
 loop-again c =
-    let l = c .before .before .before in
-    let s = l .before .before in (
-      omega arith,
-      joined-more (λ i. classLine i (getD (s .args .t .states) i 0) (λ x. getD (getD (s .args .t3) i []) x 0)) (l .loop .c) (l .loop .inv .1)
-          (c .component-line .ensures),
-    )
+    let l = c .before .before .before .before .before .before in
+    let a = l .before .before .args in
+    appending-more _ (piece (a .t2) (a .t3)) _ _ (l .loop .c) _ _ _ _ (omega arith) (c .before .before .component-line .ensures) (l .loop .inv)
 
 returns : tie.Need-returns Inv-loop μ-loop
 returns c =
-    let e : c .before .before .before .args .t .components ≡ c .before .loop .c = omega arith in
-    rw e (c .before .loop .inv .1)
+    let l = c .before in
+    let a = l .before .before .args in
+    appending-end _ (piece (a .t2) (a .t3)) _ _ (l .loop .c) _ _ (omega arith) (l .loop .inv)
 
 pub class-lines-spec : {M : Type 1} → statement M
 class-lines-spec =
@@ -76,12 +51,14 @@ class-lines-spec =
     (tie.spec
     Inv-loop
     μ-loop
-    cast-n
     loop-holds
-    mul-component-line
-    array-copy-out-component-line
+    (λ c. omega (arith, c .before .before .before .pre .0))
+    (λ c. omega (arith, c .before .before .before .pre .0))
+    (λ c. omega (arith, c .before .before .before .pre .0))
+    (λ c. omega (arith, c .before .before .before .pre .0))
     component-line-requires
-    add-c
-    loop-less
+    (λ c. omega arith)
+    (λ c. omega arith)
     loop-again
+    (λ c. put-length (c .before .loop .inv .put))
     returns)

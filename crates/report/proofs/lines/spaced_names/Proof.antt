@@ -1,49 +1,44 @@
+use mathlib.Core.List.{List, _++_}
 use native.Mathlib.Omega.{arith}
-use mathlib.Core.List.{_++_}
-use mathlib.Core.Path.{_≡_}
 use lib.ListN.{length, getD}
-use Prim.Native.Nat.{_-_, _≤_}
+use Prim.Native.Nat.{ℕ, _-_}
 use Rattle.answers.specs.Listing.{decimal, space}
-use Rattle.text.specs.Texts.{Holds}
-use Rattle.text.proofs.Texts.{same}
-use Rattle.report.specs.Report.{spacedNames}
-use Rattle.report.proofs.Lengths.{names-short}
-use Rattle.report.proofs.Parts.{joined-more}
+use Rattle.text.proofs.Texts.{put-length}
+use Rattle.report.specs.Appending.{Appending}
+use Rattle.report.proofs.Lengths.{name-short}
+use Rattle.report.proofs.Appending.{appending-start, appending-room, appending-more, appending-end}
 use Rattle.report.proofs.lines.spaced_names.Statement.{statement}
 use Rattle.report.proofs.lines.spaced_names.Tie as tie
 
+abbrev piece : List ℕ → ℕ → List ℕ
+piece names x = space ++ decimal (getD names x 0)
+
 abbrev Inv-loop : tie.InvT-loop
-Inv-loop names result₀ x₀ result x = (x ≤ length names) × Holds result₀ result (spacedNames x (λ x. getD names x 0))
+Inv-loop names out₀ at next₀ x₀ out next x = Appending (length names) (piece names) next₀ out₀ x next out
 
 abbrev μ-loop : tie.MeasureT-loop
-μ-loop names result₀ x₀ result x = length names - x
+μ-loop names out₀ at next₀ x₀ out next x = length names - x
 
 loop-holds : tie.Need-loop-holds Inv-loop μ-loop
-loop-holds c = (omega arith, same _)
-
-shared-slice-read-spaced-name : tie.Need-shared-slice-read-spaced-name Inv-loop μ-loop
-shared-slice-read-spaced-name c = omega arith
+loop-holds c = appending-start _ _ _ _
 
 spaced-name-requires : tie.Need-spaced-name-requires Inv-loop μ-loop
 spaced-name-requires c κs =
-    let l = c .before .before in
-    omega (arith, l .loop .inv .1 .count, names-short (l .loop .x) (λ x. getD (l .before .before .args .names .now) x 0))
-
-add-x : tie.Need-add-x Inv-loop μ-loop
-add-x c = omega arith
-
-loop-less : tie.Need-loop-less Inv-loop μ-loop
-loop-less c = omega arith
+    let l = c .before .before .before in
+    let s = l .before .before .before in
+    appending-room (length (s .args .names .now)) (piece (s .args .names .now)) (s .args .at) (s .args .out .now) 11 (l .loop .x) (l .loop .next) (l .loop .out)
+    (λ x h. name-short (getD (s .args .names .now) x 0)) (omega (arith, s .pre)) (omega arith) (l .loop .inv)
 
 loop-again : tie.Need-loop-again Inv-loop μ-loop
 loop-again c =
-    let l = c .before .before .before in
-    (omega arith, joined-more (λ x. space ++ decimal (getD (l .before .before .args .names .now) x 0)) (l .loop .x) (l .loop .inv .1) (c .spaced-name .ensures))
+    let l = c .before .before .before .before .before .before in
+    appending-more _ (piece (l .before .before .before .args .names .now)) _ _ (l .loop .x) _ _ _ _ (omega arith) (c .before .before .spaced-name .ensures)
+    (l .loop .inv)
 
 returns : tie.Need-returns Inv-loop μ-loop
 returns c =
-    let e : length (c .before .before .before .args .names .now) ≡ c .before .loop .x = omega arith in
-    rw e (c .before .loop .inv .1)
+    let l = c .before in
+    appending-end _ (piece (l .before .before .before .args .names .now)) _ _ (l .loop .x) _ _ (omega arith) (l .loop .inv)
 
 pub spaced-names-spec : {M : Type 1} → statement M
 spaced-names-spec =
@@ -52,9 +47,10 @@ spaced-names-spec =
     Inv-loop
     μ-loop
     loop-holds
-    shared-slice-read-spaced-name
+    (λ c. omega arith)
     spaced-name-requires
-    add-x
-    loop-less
+    (λ c. omega arith)
+    (λ c. omega arith)
     loop-again
+    (λ c. put-length (c .before .loop .inv .put))
     returns)

@@ -1,27 +1,15 @@
-use native.Mathlib.Omega.{arith}
 use borrow.Author.Needs.{needs}
-use Rattle.text.proofs.Texts.{then}
+use Rattle.text.proofs.Texts.{put-more}
 use Rattle.report.specs.Report.{stageFrom}
 use Rattle.report.proofs.Lengths.{stage-short}
 use Rattle.report.proofs.lines.stage_end.Statement.{statement}
 use Rattle.report.proofs.lines.stage_end.Tie as tie
 
-byte-requires : tie.Need-byte-requires
-byte-requires c κs = search needs
-
-stage-word-requires : tie.Need-stage-word-requires
-stage-word-requires c κs = search needs
-
-slice-aggregate-word : tie.Need-slice-aggregate-word
-slice-aggregate-word c = search needs
-
-word-requires : tie.Need-word-requires
-word-requires c κs = omega (arith, c .before .stage-word .ensures .count, stage-short (stageFrom (c .before .before .before .args .by-marks)))
+byte-requires-2 : tie.Need-byte-requires-2
+byte-requires-2 c κs = search (needs, stage-short (stageFrom (c .before .before .before .before .before .before .before .before .before .before .args .by-marks)))
 
 returns : tie.Need-returns
-returns c = then (c .before .before .before .byte .ensures) (then (c .before .before .stage-word .ensures) (c .word .ensures))
+returns c = put-more (c .before .before .before .before .before .before .before .before .before .before .byte .ensures) (put-more (c .before .before .before .before .before .before .stage-word .ensures) (c .before .before .byte2 .ensures))
 
 pub stage-end-spec : {M : Type 1} → statement M
-stage-end-spec =
-    tie.close
-    (tie.spec byte-requires stage-word-requires slice-aggregate-word word-requires returns)
+stage-end-spec = tie.close (tie.spec (λ c κs. search needs) (λ c κs. search needs) byte-requires-2 (λ c. search needs) returns)

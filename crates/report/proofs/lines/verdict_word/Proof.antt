@@ -6,31 +6,25 @@ use Rattle.report.proofs.Parts.{by-flag}
 use Rattle.report.proofs.lines.verdict_word.Statement.{statement}
 use Rattle.report.proofs.lines.verdict_word.Tie as tie
 
-slice-aggregate-word : tie.Need-slice-aggregate-word
-slice-aggregate-word c = search needs
-
-word-requires : tie.Need-word-requires
-word-requires c κs = search needs
-
 returns : tie.Need-returns
-returns c = by-flag (λ h. verdictWord (verdictFrom h)) (c .before .before .before .args .holds) true (c .before .before .if1 .taken) (c .word .ensures)
-
-slice-aggregate-word-2 : tie.Need-slice-aggregate-word-2
-slice-aggregate-word-2 c = search needs
-
-word-requires-2 : tie.Need-word-requires-2
-word-requires-2 c κs = search needs
+returns c =
+    let t = c .before .before .before .before .before in
+    by-flag (λ h. verdictWord (verdictFrom h)) (t .before .before .args .holds) true (t .if1 .taken) (c .before .before .word .ensures)
 
 returns-2 : tie.Need-returns-2
-returns-2 c = by-flag (λ h. verdictWord (verdictFrom h)) (c .before .before .before .args .holds) false (c .before .before .if1 .left) (c .word2 .ensures)
+returns-2 c =
+    let t = c .before .before .before .before .before in
+    by-flag (λ h. verdictWord (verdictFrom h)) (t .before .before .args .holds) false (t .if1 .left) (c .before .before .word2 .ensures)
 
 pub verdict-word-spec : {M : Type 1} → statement M
 verdict-word-spec =
     tie.close
     (tie.spec
-    slice-aggregate-word
-    word-requires
+    (λ c. search needs)
+    (λ c κs. search needs)
+    (λ c. search needs)
     returns
-    slice-aggregate-word-2
-    word-requires-2
+    (λ c. search needs)
+    (λ c κs. search needs)
+    (λ c. search needs)
     returns-2)

@@ -1,0 +1,23 @@
+-- What was put at the front of a lent buffer.
+use mathlib.Core.Path.{ap, _∙_}
+use mathlib.Core.List.{List, _++_}
+use lib.ListN.{length, drop, length-append}
+use native.Mathlib.Omega.{arith}
+use Prim.Native.Nat.{ℕ, _+_, _≤_}
+use Rattle.meaning.proofs.Basic.Entries.{lent-sets}
+use Rattle.answers.specs.Listing.{lineEnd}
+use Rattle.text.specs.Texts.{Put}
+use Rattle.text.proofs.Texts.{put-more}
+use Rattle.lines.specs.Made.{Made}
+
+pub put-made : {l old new : List ℕ} {r : ℕ} → length l ≤ length old → Put l 0 r old new → Made l r old new
+put-made {l} {old} h p = record { count = omega (arith, p .after); buffer = p .buffer ∙ lent-sets l old h }
+
+-- and a line end after it
+pub line-made : {l old mid new : List ℕ} {m r : ℕ} → length l + 1 ≤ length old → Put l 0 m old mid → Put lineEnd m r mid new
+    → Made (l ++ lineEnd) r old new
+line-made {l} h p q = put-made (omega (arith, h, length-append l lineEnd)) (put-more p q)
+
+-- what was made stands in the buffer
+pub made-fits : {l old new : List ℕ} {r : ℕ} → Made l r old new → r ≤ length new
+made-fits {l} {old} {new} m = omega (arith, m .count, ap length (m .buffer), length-append l (drop (length l) old))
