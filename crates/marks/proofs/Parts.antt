@@ -1,16 +1,20 @@
 -- The parts of an instrument's arrays that are a component's lists, and the formula that its nodes list.
-use mathlib.Core.Path.{_≡_, sym, _∙_}
+use mathlib.Core.Path.{_≡_, refl, sym, _∙_}
+use mathlib.Core.List.{List}
 use lib.ListN.{length, getD, take, drop}
 use native.Mathlib.Nat.{mul-comm}
 use native.Mathlib.Omega.{arith}
-use Prim.Native.Nat.{ℕ, _*_, _^_, _<_}
+use Prim.Native.Nat.{ℕ, _+_, _-_, _*_, _%_, _^_, _≤_, _<_}
 use Rattle.meaning.specs.Instrument.{table}
 use Rattle.meaning.specs.File.Grammar.{Contents, instrumentOf, limits}
 use Rattle.meaning.specs.File.Promise.{PromisedComponent, componentAt}
 use Rattle.meaning.specs.Table.{fromWords}
 use Rattle.meaning.proofs.File.Accepted.{table-is, promised-at, word-at}
 use Rattle.instrument.specs.declared.Instrument.{Instrument}
+use Rattle.instrument.specs.declared.Node.{Node}
 use Rattle.instrument.specs.Described.{Describes}
+use Rattle.instrument.specs.Lent.{Lent}
+use Rattle.instrument.proofs.Parts.{Lies, lies, cut}
 use Rattle.instrument.proofs.Places.{components-is, nodecount-is, states-at, inputcounts-at, outputcounts-at, nodes-at}
 use Rattle.instrument.proofs.Places.{outputs-part, outs-part, nexts-part}
 use Rattle.marks.specs.Component.{Lists}
@@ -67,11 +71,83 @@ module _ (t : Instrument) (k : Contents) (d : Describes t k) where
             nexts-part t k d i nexts (omega (arith, components-is t k d))
             (r ∙ (rw (states-at t k d i, inputcounts-at t k d i) (sym (promised .nextCount))))
 
-        pub parts-lists : Lists (getD (t .states) i 0) (getD (t .inputcounts) i 0) (take outputs (drop (8 * i) (t .outputs)))
+        parts-lists : Lists (getD (t .states) i 0) (getD (t .inputcounts) i 0) (take outputs (drop (8 * i) (t .outputs)))
             (take outs (drop (32 * i) (t .outs))) (take nexts (drop (512 * i) (t .nexts)))
         parts-lists = rw (outputs-are, outs-are, nexts-are) lists-promised
 
-        pub parts-table : fromWords (getD (t .states) i 0) (componentAt k i .inputs) (take outputs (drop (8 * i) (t .outputs)))
+        parts-table : fromWords (getD (t .states) i 0) (componentAt k i .inputs) (take outputs (drop (8 * i) (t .outputs)))
             (take outs (drop (32 * i) (t .outs))) (take nexts (drop (512 * i) (t .nexts)))
             ≡ table (instrumentOf k) i
         parts-table = rw (outputs-are, outs-are, nexts-are, states-at t k d i) (sym (table-is k i))
+
+-- the whole arrays of an instrument
+pub lent : (t : Instrument) (c : ℕ) → c < t .components
+    → Lent t c (t .nexts) (t .outs) (t .outputs) (getD (t .states) c 0) (getD (t .inputcounts) c 0) (getD (t .outputcounts) c 0) (t .nodes) (t .nodecount)
+lent t c l =
+    record {
+      here = l;
+      nexts-are = refl;
+      outs-are = refl;
+      outputs-are = refl;
+      states-are = refl;
+      inputs-are = refl;
+      outputs-many = refl;
+      nodes-are = refl;
+      count-is = refl;
+    }
+
+-- component c's parts of the arrays that are lent, as the code cuts them out
+pub record Parts (c : ℕ) (nexts outs outputs : List ℕ) (states inputs many : ℕ) : Type 0 where
+  pub few : c < 4
+  pub most-states : states ≤ 32
+  pub most-inputs : inputs ≤ 4
+  pub most-outputs : many ≤ 8
+  pub words : states * (1 * 2 ^ inputs % 2 ^ 64) ≤ 512
+  pub nexts-end : 512 * c + states * (1 * 2 ^ inputs % 2 ^ 64) ≤ length nexts
+  pub outs-end : 32 * c + states ≤ length outs
+  pub outputs-end : 8 * c + many ≤ length outputs
+  pub lists : Lists states inputs (take (8 * c + many - 8 * c) (drop (8 * c) outputs)) (take (32 * c + states - 32 * c) (drop (32 * c) outs))
+      (take (512 * c + states * (1 * 2 ^ inputs % 2 ^ 64) - 512 * c) (drop (512 * c) nexts))
+
+module _
+    {t : Instrument}
+    {k : Contents}
+    {c : ℕ}
+    {nexts outs outputs : List ℕ}
+    {states inputs many : ℕ}
+    {nodes : List Node}
+    {count : ℕ}
+    (d : Describes t k)
+    (l : Lent t c nexts outs outputs states inputs many nodes count)
+  where
+    at : Lies t c
+    at = lies t k d c (l .here)
+
+    pub parts : Parts c nexts outs outputs states inputs many
+    parts =
+        rw (l .nexts-are, l .outs-are, l .outputs-are, l .states-are, l .inputs-are, l .outputs-many)
+        (record {
+          few = at .few;
+          most-states = at .states;
+          most-inputs = at .inputs;
+          most-outputs = at .outputs;
+          words = at .words;
+          nexts-end = at .nexts-end;
+          outs-end = at .outs-end;
+          outputs-end = at .outputs-end;
+          lists = parts-lists t k d c (l .here) _ _ _ (cut _ _) (cut _ _) (at .words-cut);
+        })
+
+    pub lent-inputs : length (componentAt k c .inputs) ≡ inputs
+    lent-inputs = sym (l .inputs-are ∙ inputcounts-at t k d c)
+
+    pub lent-table : fromWords states (componentAt k c .inputs) (take (8 * c + many - 8 * c) (drop (8 * c) outputs))
+        (take (32 * c + states - 32 * c) (drop (32 * c) outs))
+        (take (512 * c + states * (1 * 2 ^ inputs % 2 ^ 64) - 512 * c) (drop (512 * c) nexts))
+        ≡ table (instrumentOf k) c
+    lent-table =
+        rw (l .nexts-are, l .outs-are, l .outputs-are, l .states-are, l .inputs-are, l .outputs-many)
+        (parts-table t k d c (l .here) _ _ _ (cut _ _) (cut _ _) (at .words-cut))
+
+    pub lent-listing : Listing nodes count (k .nodes)
+    lent-listing = rw (l .nodes-are, l .count-is) (listing t k d)

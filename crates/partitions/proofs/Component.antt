@@ -1,12 +1,10 @@
 -- The class names of one component are those of its relation at the root.
-use mathlib.Core.Path.{_≡_, refl, ap₂}
+use mathlib.Core.Path.{_≡_, refl, sym, ap₂, _∙_}
 use mathlib.Core.Bool.{Bool, cond}
-use mathlib.Core.List.{List, []}
-use lib.Dec.{T}
-use lib.ListN.{length, getD}
+use mathlib.Core.List.{List}
+use lib.ListN.{length}
 use native.Mathlib.Omega.{arith}
 use Prim.Native.Nat.{ℕ, zero, suc, _-_, _≤_, _<_}
-use Rattle.words.specs.Sets.{has}
 use Rattle.meaning.specs.Table.{Table}
 use Rattle.meaning.specs.View.{View, wholeWords}
 use Rattle.meaning.specs.Nodes.{Node, formulaAt}
@@ -17,19 +15,17 @@ use Rattle.meaning.specs.Reference.Relation.{relB}
 use Rattle.meaning.specs.Reference.Tests.{lowest}
 use Rattle.meaning.proofs.Basic.Bounded.{any-same}
 use Rattle.meaning.proofs.File.Accepted.{accepted}
+use Rattle.instrument.specs.declared.Node as stored
 use Rattle.instrument.specs.declared.Instrument.{Instrument}
 use Rattle.instrument.specs.Described.{Describes}
-use Rattle.instrument.proofs.Places.{nodecount-is}
+use Rattle.instrument.specs.Lent.{Lent}
 use Rattle.instrument.proofs.Tables.{table-count, table-states}
 use Rattle.classes.specs.Rows.{rel, rows}
 use Rattle.classes.specs.Names.{Inhabited, classNames}
 use Rattle.classes.proofs.Padded.{padded-same}
 use Rattle.classes.proofs.Rows.{rel-rows}
 use Rattle.classes.proofs.Meaning.{inhabited}
-use Rattle.subformulas.specs.Under.{underRoot, Closed}
-use Rattle.subformulas.proofs.Members.{root-under, under-closed}
-use Rattle.relations.specs.Relations.{formulaRelation, componentRelations}
-use Rattle.relations.proofs.NodeRelations.{relation-at}
+use Rattle.relations.specs.Relations.{formulaRelation, rootRelation}
 use Rattle.relations.proofs.Meaning.{related-equivalence, relation-decides}
 use Rattle.partitions.specs.Classes.{tableClasses, componentClasses}
 use Rattle.partitions.proofs.Classes.{few-states}
@@ -51,45 +47,36 @@ root-names t κ ns m =
     related : ℕ → ℕ → Bool
     related = relB t κ (formulaAt ns (length ns - 1))
 
-module _ (t : Instrument) (k : Contents) (d : Describes t k) (needed : ℕ) (u : needed ≡ underRoot (instrumentOf k)) where
-  abbrev I : meaning.Instrument
-  I = instrumentOf k
+module _
+    {t : Instrument}
+    {k : Contents}
+    {c : ℕ}
+    {nexts outs outputs : List ℕ}
+    {states inputs many : ℕ}
+    {nodes : List stored.Node}
+    {count : ℕ}
+    (d : Describes t k)
+    (l : Lent t c nexts outs outputs states inputs many nodes count)
+  where
+    abbrev I : meaning.Instrument
+    I = instrumentOf k
 
-  -- the root is the last node
-  abbrev root : ℕ
-  root = length (k .nodes) - 1
+    here : c < components I
+    here = omega (arith, l .here, table-count t k d)
 
-  -- the operands of each node under the root are under it, and so is the root
-  pub needed-closed : Closed (k .nodes) needed
-  needed-closed = rw u (under-closed I (d .promised .earlier) (d .promised .nodeCount .0))
+    small : table I c .states ≤ 32
+    small = few-states t k d c here
 
-  root-needed : T (has needed root)
-  root-needed = rw u (root-under I (d .promised .earlier) (d .promised .nodeCount .0))
-
-  module _ (i : ℕ) (l : i < t .components) where
-    here : i < components I
-    here = omega (arith, table-count t k d)
-
-    small : table I i .states ≤ 32
-    small = few-states t k d i here
-
-    root-lt : root < length (k .nodes)
-    root-lt = omega (arith, d .promised .nodeCount .0)
+    states-is : states ≡ table I c .states
+    states-is = l .states-are ∙ sym (table-states t k d c)
 
     -- each state is related to a state, itself
-    pub root-inhabited : (r : List (List ℕ)) → r ≡ componentRelations I i needed
-        → Inhabited (getD (t .states) i 0) (getD r (t .nodecount - 1) [])
+    pub root-inhabited : (r : List ℕ) → r ≡ rootRelation I c → Inhabited states r
     root-inhabited r e =
-        rw (e, nodecount-is t k d, ← table-states t k d i)
-        (inhabited (table I i) small (getD (componentRelations I i needed) root []) (related-equivalence I good i here root)
-        (relation-decides I good i here root small (d .promised .nodeCount .1) root-lt needed root-needed))
+        rw (e, states-is) (inhabited (table I c) small (rootRelation I c) (related-equivalence I good c here) (relation-decides I good c here small))
       where
         good : Accepted I
         good = accepted limits k (d .promised)
 
-    pub root-classes : (r : List (List ℕ)) → r ≡ componentRelations I i needed
-        → classNames (getD r (t .nodecount - 1) []) (getD (t .states) i 0) ≡ componentClasses I i
-    root-classes r e =
-        let a = relation-at (table I i) (wholeWords (table I i)) (k .nodes) needed (d .promised .nodeCount .1) root root-lt root-needed in
-        rw (e, nodecount-is t k d, ← table-states t k d i, a)
-        (root-names (table I i) (wholeWords (table I i)) (k .nodes) small)
+    pub root-classes : (r : List ℕ) → r ≡ rootRelation I c → classNames r states ≡ componentClasses I c
+    root-classes r e = rw (e, states-is) (root-names (table I c) (wholeWords (table I c)) (k .nodes) small)

@@ -13,7 +13,7 @@ use Rattle.meaning.specs.Nodes as formula
 use Rattle.meaning.specs.Nodes.{formulaAt}
 use Rattle.meaning.specs.Table.{Table, fromWords}
 use Rattle.meaning.specs.Instrument as meaning
-use Rattle.meaning.specs.Instrument.{table}
+use Rattle.meaning.specs.Instrument.{table, rootFormula}
 use Rattle.meaning.specs.File.Grammar.{Contents, instrumentOf, limits}
 use Rattle.meaning.specs.View.{View, signals, wholeWords}
 use Rattle.meaning.specs.Reference.Answers.{listBelow}
@@ -97,9 +97,9 @@ pub record Relating (states inputs : ℕ) (outputs outs succ compared : List ℕ
       Marked t (comparing compared t) ns marks
       → Written (replicate (limits .nodes) noRelation) 0 count (λ k. neededRelation t (comparing compared t) ns needed k ∷ []) k r
 
--- the relations of component c at the needed nodes, where whole output words are compared
-abbrev pub componentRelations : meaning.Instrument → ℕ → ℕ → List (List ℕ)
-componentRelations I c needed = listRelations (table I c) (wholeWords (table I c)) (I .nodes) needed
+-- the relation of component c at the root, where whole output words are compared
+abbrev pub rootRelation : meaning.Instrument → ℕ → List ℕ
+rootRelation I c = formulaRelation (table I c) (wholeWords (table I c)) (rootFormula I)
 
 -- the instrument describes a file's contents, and the marks are those of its component c
 pub record MarkedComponent (t : Instrument) (c : ℕ) (marks : List Mark) (k : Contents) : Type 0 where
