@@ -1,5 +1,5 @@
 -- The parts of an instrument's arrays that are a component's lists, and the formula that its nodes list.
-use mathlib.Core.Path.{_≡_, refl, sym, _∙_}
+use mathlib.Core.Path.{_≡_, refl, sym, ap, _∙_}
 use mathlib.Core.List.{List}
 use lib.ListN.{length, getD, take, drop}
 use native.Mathlib.Nat.{mul-comm}
@@ -13,7 +13,7 @@ use Rattle.meaning.proofs.File.Accepted.{table-is, promised-at, word-at}
 use Rattle.instrument.specs.declared.Instrument.{Instrument}
 use Rattle.instrument.specs.declared.Node.{Node}
 use Rattle.instrument.specs.Described.{Describes}
-use Rattle.instrument.specs.Lent.{Lent}
+use Rattle.instrument.specs.Lent.{Lent, LentAll}
 use Rattle.instrument.proofs.Parts.{Lies, lies, cut}
 use Rattle.instrument.proofs.Places.{components-is, nodecount-is, states-at, inputcounts-at, outputcounts-at, nodes-at}
 use Rattle.instrument.proofs.Places.{outputs-part, outs-part, nexts-part}
@@ -80,12 +80,11 @@ module _ (t : Instrument) (k : Contents) (d : Describes t k) where
             ≡ table (instrumentOf k) i
         parts-table = rw (outputs-are, outs-are, nexts-are, states-at t k d i) (sym (table-is k i))
 
--- the whole arrays of an instrument
-pub lent : (t : Instrument) (c : ℕ) → c < t .components
-    → Lent t c (t .nexts) (t .outs) (t .outputs) (getD (t .states) c 0) (getD (t .inputcounts) c 0) (getD (t .outputcounts) c 0) (t .nodes) (t .nodecount)
-lent t c l =
+-- the arrays of an instrument are lent whole
+pub lent-all : (t : Instrument)
+    → LentAll t (t .nexts) (t .outs) (t .outputs) (t .states) (t .inputcounts) (t .outputcounts) (t .nodes) (t .nodecount) (t .components)
+lent-all t =
     record {
-      here = l;
       nexts-are = refl;
       outs-are = refl;
       outputs-are = refl;
@@ -94,7 +93,29 @@ lent t c l =
       outputs-many = refl;
       nodes-are = refl;
       count-is = refl;
+      components-are = refl;
     }
+
+-- each component is lent where all are
+pub lent-at : {t : Instrument} {nexts outs outputs states inputs many : List ℕ} {nodes : List Node} {count n : ℕ}
+    → LentAll t nexts outs outputs states inputs many nodes count n → (c : ℕ) → c < n
+    → Lent t c nexts outs outputs (getD states c 0) (getD inputs c 0) (getD many c 0) nodes count
+lent-at l c h =
+    record {
+      here = omega (arith, l .components-are);
+      nexts-are = l .nexts-are;
+      outs-are = l .outs-are;
+      outputs-are = l .outputs-are;
+      states-are = ap (λ s. getD s c 0) (l .states-are);
+      inputs-are = ap (λ s. getD s c 0) (l .inputs-are);
+      outputs-many = ap (λ s. getD s c 0) (l .outputs-many);
+      nodes-are = l .nodes-are;
+      count-is = l .count-is;
+    }
+
+pub all-listing : {t : Instrument} {k : Contents} {nexts outs outputs states inputs many : List ℕ} {nodes : List Node} {count n : ℕ} → Describes t k
+    → LentAll t nexts outs outputs states inputs many nodes count n → Listing nodes count (k .nodes)
+all-listing {t} {k} d l = rw (l .nodes-are, l .count-is) (listing t k d)
 
 -- component c's parts of the arrays that are lent, as the code cuts them out
 pub record Parts (c : ℕ) (nexts outs outputs : List ℕ) (states inputs many : ℕ) : Type 0 where

@@ -1,15 +1,20 @@
 use borrow.Author.Needs.{needs}
+use Rattle.marks.proofs.Parts.{lent-all}
 use Rattle.partitions.proofs.all_classes.Statement.{statement}
 use Rattle.partitions.proofs.all_classes.Tie as tie
 
-all-marks-requires : tie.Need-all-marks-requires
-all-marks-requires c κs = search needs
-
-marked-classes-requires : tie.Need-marked-classes-requires
-marked-classes-requires c κs = let p = c .before .pre in (p .0, record { describes = p .1; marked = c .all-marks .ensures (p .0) (p .1) })
+lent-classes-requires : tie.Need-lent-classes-requires
+lent-classes-requires c κs =
+    let m = c .before .before .before .before .before .before .before in
+    let (k, d) = m .before .before .before .before .before .before .before .before .before .before .before .before .pre in
+    (_, k, record { describes = d; marked = m .lent-marks .ensures _ k d (lent-all _) }, lent-all _)
 
 returns : tie.Need-returns
-returns c = λ k d. c .marked-classes .ensures k (record { describes = d; marked = c .before .all-marks .ensures k d })
+returns c =
+    λ k d.
+    let m = c .before .before .before .before .before .before .before .before in
+    c .lent-classes .ensures _ k (record { describes = d; marked = m .lent-marks .ensures _ k d (lent-all _) }) (lent-all _)
 
 pub all-classes-spec : {M : Type 1} → statement M
-all-classes-spec = tie.close (tie.spec all-marks-requires marked-classes-requires returns)
+all-classes-spec =
+    tie.close (tie.spec (λ c. search needs) (λ c. search needs) (λ c κs. search needs) lent-classes-requires returns)
