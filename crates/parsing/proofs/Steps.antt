@@ -3,7 +3,7 @@ use mathlib.Core.Path.{_≡_, refl, sym, ap, _∙_, subst}
 use mathlib.Core.List.{List}
 use native.Mathlib.Omega.{arith}
 use native.Mathlib.Numerals.{add-one}
-use Prim.Native.Nat.{ℕ, zero, suc, _+_, _≤_}
+use Prim.Native.Nat.{ℕ, zero, suc, _+_}
 use Rattle.meaning.specs.File.Parser.{Got, found, fault, on}
 use Rattle.meaning.specs.File.Grammar.{Contents}
 use Rattle.meaning.proofs.File.Lists.{on-assoc}
@@ -105,17 +105,8 @@ module _ (file : List ℕ) where
     pub goes-all : (n m : ℕ) (p q : Step) → n ≡ m → Goes file (times n stage) p q → Goes file (times m stage) p q
     goes-all n m p q e x = subst (λ (n : ℕ). Goes file (times n stage) p q) e x
 
--- the limits of a refused step, and wider ones
+-- the limits of a refused step
 pub fits-refused : (c n s : ℕ) (r : Refusal) (q : Step) → q ≡ refusedStep r → Fits c n s (q .instrument)
 fits-refused c n s r q e =
     subst (λ (q : Step). Fits c n s (q .instrument)) (sym e)
     (record { few-components = omega arith; few-signals = omega arith; few-nodes = omega arith; few-starts = omega arith })
-
-pub fits-more : (c n s c′ n′ s′ : ℕ) (t : Instrument) → c ≤ c′ → n ≤ n′ → s ≤ s′ → Fits c n s t → Fits c′ n′ s′ t
-fits-more c n s c′ n′ s′ t x y z f =
-    record {
-      few-components = omega (arith, f .few-components);
-      few-signals = f .few-signals;
-      few-nodes = omega (arith, f .few-nodes);
-      few-starts = omega (arith, f .few-starts);
-    }
