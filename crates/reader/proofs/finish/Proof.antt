@@ -1,5 +1,5 @@
-use Rattle.parsing.proofs.Steps.{goes-refused, goes-accepted}
 use mathlib.Core.Path.{refl}
+use Rattle.parsing.proofs.Steps.{goes-refused, goes-accepted}
 use Rattle.reader.proofs.Files.{trailing, ended}
 use borrow.Author.Needs.{needs}
 use Rattle.reader.proofs.finish.Statement.{statement}

@@ -1,6 +1,5 @@
 use mathlib.Core.Path.{refl, sym, subst, ap, _∙_}
 use Rattle.meaning.specs.File.Grammar.{readFile}
-use Rattle.parsing.specs.declared.Outcome.{Outcome}
 use Rattle.parsing.specs.declared.Outcome.the-variants.{Accepted, Refused}
 use Rattle.parsing.proofs.Steps.{refused-was, accepted-was}
 use Rattle.reader.specs.Outcomes.{layoutOf, Tells}
@@ -15,20 +14,18 @@ returns c =
     let file = c .before .before .before .before .before .before .before .before .before .before .args .file .now in
     let w = c .before .before .before .before .before .before .whole in
     let outcome′ = c .before .before .outcome in
-    let q = c .refused .ensures in
     let e = refused-was (wholeStep (w .result) (w .last .1 .0) (w .last .1 .1 .0)) _ (readFile file) (outcome′ .given .1) (w .ensures .0) in
-    let told = subst (Tells (Refused (outcome′ .given .0 .0))) (sym e) refl in
-    let h = subst (λ (o : Outcome). Tells o (readFile file)) (sym (q .0)) told in
-    let l = q .1 ∙ sym (ap layoutOf e) in
+    let h = subst (Tells (Refused (outcome′ .given .0 .0))) (sym e) refl in
+    let l = c .empty .ensures .0 ∙ sym (ap layoutOf e) in
     (h, (l, accepted-found file _ _ h l))
 
 returns-2 : tie.Need-returns-2
 returns-2 c =
-    let file = c .before .before .before .before .before .before .before .before .before .before .before .before .before .before .before .before .before .before .args .file .now in
-    let w = c .before .before .before .before .before .before .before .before .before .before .before .before .before .before .whole in
-    let f = accepted-was (wholeStep (w .result) (w .last .1 .0) (w .last .1 .1 .0)) (readFile file) (c .before .before .before .before .before .before .before .before .before .before .enum-told .given .1) (w .ensures .0) in
+    let file = c .before .before .before .before .before .before .before .before .before .args .file .now in
+    let w = c .before .before .before .before .before .whole in
+    let f = accepted-was (wholeStep (w .result) (w .last .1 .0) (w .last .1 .1 .0)) (readFile file) (c .before .enum-told .given .1) (w .ensures .0) in
     let h = subst (Tells Accepted) (sym (f .is)) tt in
-    let l = f .same ∙ sym (ap layoutOf (f .is)) in
+    let l = c .held .ensures ∙ f .same ∙ sym (ap layoutOf (f .is)) in
     (h, (l, accepted-found file _ Accepted h l))
 
 pub read-spec : {M : Type 1} → statement M
@@ -41,5 +38,6 @@ read-spec =
     (λ c. search needs)
     (λ c κs. search needs)
     (λ c. search needs)
+    (λ c κs. search needs)
     returns
     returns-2)
