@@ -11,6 +11,15 @@ use Rattle.reader.proofs.read.Tie as tie
 
 returns : tie.Need-returns
 returns c =
+    let file = c .before .before .before .before .before .before .before .before .before .args .file .now in
+    let w = c .before .before .before .before .before .whole in
+    let f = accepted-was (wholeStep (w .result) (w .last .1 .0) (w .last .1 .1 .0)) (readFile file) (c .before .enum-told .given .1) (w .ensures .0) in
+    let h = subst (Tells Accepted) (sym (f .is)) tt in
+    let l = c .held .ensures ∙ f .same ∙ sym (ap layoutOf (f .is)) in
+    (h, (l, accepted-found file _ Accepted h l))
+
+returns-2 : tie.Need-returns-2
+returns-2 c =
     let file = c .before .before .before .before .before .before .before .before .before .before .args .file .now in
     let w = c .before .before .before .before .before .before .whole in
     let outcome′ = c .before .before .outcome in
@@ -18,15 +27,6 @@ returns c =
     let h = subst (Tells (Refused (outcome′ .given .0 .0))) (sym e) refl in
     let l = c .empty .ensures .0 ∙ sym (ap layoutOf e) in
     (h, (l, accepted-found file _ _ h l))
-
-returns-2 : tie.Need-returns-2
-returns-2 c =
-    let file = c .before .before .before .before .before .before .before .before .before .args .file .now in
-    let w = c .before .before .before .before .before .whole in
-    let f = accepted-was (wholeStep (w .result) (w .last .1 .0) (w .last .1 .1 .0)) (readFile file) (c .before .enum-told .given .1) (w .ensures .0) in
-    let h = subst (Tells Accepted) (sym (f .is)) tt in
-    let l = c .held .ensures ∙ f .same ∙ sym (ap layoutOf (f .is)) in
-    (h, (l, accepted-found file _ Accepted h l))
 
 pub read-spec : {M : Type 1} → statement M
 read-spec =
