@@ -16,7 +16,10 @@ use Rattle.instrument.proofs.Rows.{filled-at, rows-more}
 use Rattle.parsing.proofs.Parsers.{on-each}
 use Rattle.parsing.proofs.Stores.{sets-map}
 use Rattle.parsing.proofs.Times.{contents}
-use Rattle.formulas.specs.Formulas.{startBy}
+use Rattle.formulas.specs.declared.nodes.NodeList.{NodeList}
+use Rattle.formulas.specs.declared.starts.StartList.{StartList}
+use Rattle.formulas.specs.Formulas.{startBy, nodeArray, startArray}
+use Rattle.formulas.specs.Steps.{changed, withNodeList, withStartList}
 
 -- a start is judged by the sizes of its components
 states-same : (file : List ℕ) (u v : List ℕ) (n c : ℕ) → ((i : ℕ) → i < c + n → getD u i 0 ≡ getD v i 0) → (at : ℕ)
@@ -34,26 +37,6 @@ states-same file u v (suc n) c h at =
 
 start-same : (file : List ℕ) (n : ℕ) (vs : List ℕ) → length vs ≤ n → (at : ℕ) → startBy (row n vs) (length vs) file at ≡ start limits vs file at
 start-same file n vs h at = states-same file (row n vs) vs (length vs) 0 (λ i l. filled-at 0 n vs h i) at
-
--- an instrument with another formula and other starts
-abbrev pub changed : Instrument → ℕ → List Node → ℕ → List ℕ → Instrument
-changed t nodecount nodes startcount starts =
-    record {
-      components = t .components;
-      signals = t .signals;
-      driven = t .driven;
-      states = t .states;
-      inputcounts = t .inputcounts;
-      inputs = t .inputs;
-      outputcounts = t .outputcounts;
-      outputs = t .outputs;
-      outs = t .outs;
-      nexts = t .nexts;
-      nodecount = nodecount;
-      nodes = nodes;
-      startcount = startcount;
-      starts = starts;
-    }
 
 -- contents with these nodes, or these starts
 abbrev pub withNodes : Contents → List (formula.Node ℕ) → Contents
@@ -82,24 +65,20 @@ module _ (t : Instrument) (k : Contents) (e : t ≡ layout k) where
   pub without-nodes : t .nodecount ≤ 0 → k .nodes ≡ []
   without-nodes h = none (k .nodes) (omega (arith, ap (λ (u : Instrument). u .nodecount) e))
 
-  pub nodes-laid : t .nodecount ≤ 0 → (ns : List (formula.Node ℕ)) (count : ℕ) (l : List Node) → count ≡ length ns
-      → l ≡ sets (t .nodes) 0 (map nodeOf ns) → changed t count l (t .startcount) (t .starts) ≡ layout (withNodes k ns)
-  nodes-laid h ns count l n m =
+  pub nodes-laid : (ns : List (formula.Node ℕ)) (r : NodeList) → r .count ≡ length ns → r .nodes ≡ nodeArray ns
+      → withNodeList t r ≡ layout (withNodes k ns)
+  nodes-laid ns r n m =
       ap₂ (λ (i : ℕ) (l : List Node). changed t i l (t .startcount) (t .starts)) n m
-      ∙ ap (λ (u : Instrument). changed u (length ns) (sets (u .nodes) 0 (map nodeOf ns)) (u .startcount) (u .starts)) e
-      ∙ ap (λ (ms : List (formula.Node ℕ)). changed (layout k) (length ns) (sets (layout (withNodes k ms) .nodes) 0 (map nodeOf ns)) (length (k .starts)) (layout k .starts))
-      (without-nodes h)
+      ∙ ap (λ (u : Instrument). changed u (length ns) (nodeArray ns) (u .startcount) (u .starts)) e
 
   pub without-starts : t .startcount ≤ 0 → k .starts ≡ []
   without-starts h = none (k .starts) (omega (arith, ap (λ (u : Instrument). u .startcount) e))
 
-  pub starts-laid : t .startcount ≤ 0 → (ss : List (List ℕ)) (count : ℕ) (l : List ℕ) → count ≡ length ss
-      → l ≡ rows (limits .components) 0 (t .starts) ss → changed t (t .nodecount) (t .nodes) count l ≡ layout (withStarts k ss)
-  starts-laid h ss count l n m =
+  pub starts-laid : (ss : List (List ℕ)) (r : StartList) → r .count ≡ length ss → r .starts ≡ startArray ss
+      → withStartList t r ≡ layout (withStarts k ss)
+  starts-laid ss r n m =
       ap₂ (λ (i : ℕ) (l : List ℕ). changed t (t .nodecount) (t .nodes) i l) n m
-      ∙ ap (λ (u : Instrument). changed u (u .nodecount) (u .nodes) (length ss) (rows (limits .components) 0 (u .starts) ss)) e
-      ∙ ap (λ (ms : List (List ℕ)). changed (layout k) (length (k .nodes)) (layout k .nodes) (length ss) (rows (limits .components) 0 (layout (withStarts k ms) .starts) ss))
-      (without-starts h)
+      ∙ ap (λ (u : Instrument). changed u (u .nodecount) (u .nodes) (length ss) (startArray ss)) e
 
   -- a start by the instrument's sizes is one by the sizes of the contents
   pub start-laid : t .components ≤ limits .components

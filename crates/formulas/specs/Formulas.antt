@@ -1,10 +1,15 @@
 -- A node that was read, as its kind and operands; so many nodes, and so many starts (document 01, The instrument file).
-use mathlib.Core.List.{List}
+use mathlib.Core.List.{List, map}
+use lib.ListN.{replicate}
+use lib.Seq.{sets}
 use Prim.Native.Nat.{ℕ, _+_}
+use Rattle.meaning.specs.Nodes as formula
+use Rattle.meaning.specs.Nodes.{top}
 use Rattle.meaning.specs.File.Parser.{Got, found, fault, Parser, _>>=_, give, listOf}
 use Rattle.meaning.specs.File.Grammar.{limits, earlier, startState}
 use Rattle.cursor.specs.Answers.{number}
 use Rattle.instrument.specs.declared.Node.{Node}
+use Rattle.instrument.specs.Layout.{nodeOf, rowsOf}
 use Rattle.parsing.specs.declared.Outcome.{Outcome}
 use Rattle.parsing.specs.declared.Outcome.the-variants.{Accepted, Refused}
 use Rattle.formulas.specs.declared.formula.NodeRead.{NodeRead}
@@ -33,6 +38,13 @@ filledBy (Refused r) at l = fault (number r)
 
 abbrev pub gotNodes : NodeList → Got (List Node)
 gotNodes p = filledBy (p .outcome) (p .at) (p .nodes)
+
+-- the array of a formula's nodes, and the array of the starts (specs/Layout of crate instrument)
+abbrev pub nodeArray : List (formula.Node ℕ) → List Node
+nodeArray ns = sets (replicate (limits .nodes) (nodeOf top)) 0 (map nodeOf ns)
+
+abbrev pub startArray : List (List ℕ) → List ℕ
+startArray ss = rowsOf (limits .starts) (limits .components) ss
 
 abbrev pub gotStarts : StartList → Got (List ℕ)
 gotStarts p = filledBy (p .outcome) (p .at) (p .starts)

@@ -7,39 +7,49 @@ use cursor::Refusal;
 use instrument::Instrument;
 use instrument::Node;
 use parsing::Outcome;
-use parsing::step;
-use parsing::step::Step;
 ghost use mathlib.Core.Path.{_≡_};
-ghost use mathlib.Core.List.{map};
 ghost use Prim.Native.Nat.{_≤_};
-ghost use lib.Seq.{sets};
 ghost use Rattle.meaning.specs.File.Grammar.{limits, nodes};
-ghost use Rattle.instrument.specs.Layout.{nodeOf};
-ghost use Rattle.parsing.specs.Stages.{mapped, times};
-ghost use Rattle.parsing.specs.Steps.{Adds, Goes, Fits};
-ghost use Rattle.formulas.specs.Stages.{addNode, readNodes};
-ghost use Rattle.formulas.specs.Formulas.{gotNodes};
+ghost use Rattle.parsing.specs.declared.Outcome.the-variants.{Refused};
+ghost use Rattle.parsing.specs.Stages.{mapped};
+ghost use Rattle.formulas.specs.Formulas.{gotNodes, nodeArray};
+ghost use Rattle.formulas.specs.Steps.{ReadsNodes};
 
-// Nodes from the front of an array on and the place after them, or why they are refused.
+// So many nodes from the front of an array on and the place after them, or why they are refused.
 pub struct NodeList {
     pub outcome: Outcome,
     pub at: usize,
+    pub count: u32,
     pub nodes: [Node; Instrument::MAX_NODES],
 }
 
-// So many nodes, in an array of others.
-fn all_nodes(
-    file: &[u8],
-    from: Cursor,
-    count: u32,
-    w: u32,
-    driven: u32,
-    others: [Node; Instrument::MAX_NODES],
-) -> NodeList
-    requires { ⌜ (count ≤ limits .nodes) × (w ≤ limits .signals) ⌝ }
-    ensures { λ r. ⌜ gotNodes r ≡ mapped (λ ns. sets others 0 (map nodeOf ns)) (nodes limits w driven count (now (file .entry)) (from .at)) ⌝ }
+// The list of a file that is refused.
+fn no_nodes(r: Refusal) -> NodeList
+    ensures { λ q. ⌜ q .outcome ≡ Refused r ⌝ }
 {
-    let mut list = others;
+    NodeList {
+        outcome: Outcome::Refused(r),
+        at: 0,
+        count: 0,
+        nodes: [Node {
+            kind: 0,
+            left: 0,
+            right: 0,
+        }; 24],
+    }
+}
+
+// So many nodes.
+fn all_nodes(file: &[u8], from: Cursor, count: u32, w: u32, driven: u32) -> NodeList
+    requires { ⌜ (count ≤ limits .nodes) × (w ≤ limits .signals) ⌝ }
+    ensures { λ r. ⌜ gotNodes r ≡ mapped nodeArray (nodes limits w driven count (now (file .entry)) (from .at)) ⌝ }
+    ensures { λ r. ⌜ r .count ≡ count ⌝ }
+{
+    let mut list = [Node {
+        kind: 0,
+        left: 0,
+        right: 0,
+    }; 24];
     let mut place = from;
     let mut k: u32 = 0;
     while k < count {
@@ -48,6 +58,7 @@ fn all_nodes(
                 return NodeList {
                     outcome: Outcome::Refused(r),
                     at: 0,
+                    count,
                     nodes: list,
                 };
             }
@@ -61,46 +72,21 @@ fn all_nodes(
     NodeList {
         outcome: Outcome::Accepted,
         at: place.at,
+        count,
         nodes: list,
     }
 }
 
-// An instrument without nodes, with so many.
-fn with_nodes(file: &[u8], from: Cursor, count: u32, mut t: Instrument) -> Step
-    requires { ⌜ (count ≤ limits .nodes) × Fits (limits .components) 0 0 t ⌝ }
-    ensures { λ q. ⌜ Adds (now (file .entry)) (times count addNode) t (from .at) q ⌝ }
-    ensures { λ q. ⌜ Fits (limits .components) (limits .nodes) 0 (q .instrument) ⌝ }
+// The node count and the nodes, over w signals of which these are driven, if the file is accepted so far.
+pub fn nodes(file: &[u8], so_far: Outcome, from: Cursor, w: u32, driven: u32) -> NodeList
+    requires { ⌜ w ≤ limits .signals ⌝ }
+    ensures { λ r. ⌜ ReadsNodes (now (file .entry)) «so_far» (from .at) w driven r ⌝ }
 {
-    let others = t.nodes;
-    let read = all_nodes(file, from, count, t.signals, t.driven, others);
-    let outcome = read.outcome;
-    match outcome {
-        Outcome::Refused(r) => step::refused(r),
-        Outcome::Accepted => {
-            let list = read.nodes;
-            t.nodecount = count;
-            t.nodes = list;
-            step::accepted(Cursor { at: read.at }, t)
-        }
-    }
-}
-
-// The node count and the nodes.
-pub fn nodes(file: &[u8], before: Step) -> Step
-    requires { ⌜ Fits (limits .components) 0 0 (before .instrument) ⌝ }
-    ensures { λ q. ⌜ Goes (now (file .entry)) readNodes before q ⌝ }
-    ensures { λ q. ⌜ Fits (limits .components) (limits .nodes) 0 (q .instrument) ⌝ }
-{
-    let outcome = before.outcome;
-    match outcome {
-        Outcome::Refused(r) => step::refused(r),
-        Outcome::Accepted => {
-            let t = before.instrument;
-            let from = Cursor { at: before.at };
-            match from.between(file, 1, 24, Refusal::Range) {
-                Read::Refused(r) => step::refused(r),
-                Read::Number(count, first) => with_nodes(file, first, count, t),
-            }
-        }
+    match so_far {
+        Outcome::Refused(r) => no_nodes(r),
+        Outcome::Accepted => match from.between(file, 1, 24, Refusal::Range) {
+            Read::Refused(r) => no_nodes(r),
+            Read::Number(count, first) => all_nodes(file, first, count, w, driven),
+        },
     }
 }

@@ -6,38 +6,48 @@ use instrument::Instrument;
 use parsing::Outcome;
 use parsing::lists;
 use parsing::lists::Moved;
-use parsing::step;
-use parsing::step::Step;
 ghost use mathlib.Core.Path.{_≡_};
 ghost use Prim.Native.Nat.{_≤_};
 ghost use Rattle.meaning.specs.File.Parser.{repeat};
 ghost use Rattle.meaning.specs.File.Grammar.{limits};
-ghost use Rattle.instrument.specs.Layout.{rows};
-ghost use Rattle.parsing.specs.Stages.{mapped, times};
-ghost use Rattle.parsing.specs.Steps.{Adds, Goes, Fits};
-ghost use Rattle.formulas.specs.Stages.{addStart, readStarts};
-ghost use Rattle.formulas.specs.Formulas.{startBy, gotStarts};
+ghost use Rattle.parsing.specs.declared.Outcome.the-variants.{Refused};
+ghost use Rattle.parsing.specs.Stages.{mapped};
+ghost use Rattle.formulas.specs.Formulas.{startBy, gotStarts, startArray};
+ghost use Rattle.formulas.specs.Steps.{ReadsStarts};
 
-// Starts from the front of an array on and the place after them, or why they are refused.
+// So many starts from the front of an array on and the place after them, or why they are refused.
 pub struct StartList {
     pub outcome: Outcome,
     pub at: usize,
+    pub count: u32,
     pub starts: [u32; Instrument::ALL_STARTS],
 }
 
-// So many starts of n components of these sizes, in an array of others.
+// The list of a file that is refused.
+fn no_starts(r: Refusal) -> StartList
+    ensures { λ q. ⌜ q .outcome ≡ Refused r ⌝ }
+{
+    StartList {
+        outcome: Outcome::Refused(r),
+        at: 0,
+        count: 0,
+        starts: [0u32; 256],
+    }
+}
+
+// So many starts of n components of these sizes.
 fn all_starts(
     file: &[u8],
     from: Cursor,
     count: u32,
     n: usize,
     sizes: [u32; Instrument::MAX_COMPONENTS],
-    others: [u32; Instrument::ALL_STARTS],
 ) -> StartList
     requires { ⌜ (count ≤ limits .starts) × (n ≤ limits .components) ⌝ }
-    ensures { λ r. ⌜ gotStarts r ≡ mapped (rows (limits .components) 0 others) (repeat (startBy sizes n) count (now (file .entry)) (from .at)) ⌝ }
+    ensures { λ r. ⌜ gotStarts r ≡ mapped startArray (repeat (startBy sizes n) count (now (file .entry)) (from .at)) ⌝ }
+    ensures { λ r. ⌜ r .count ≡ count ⌝ }
 {
-    let mut list = others;
+    let mut list = [0u32; 256];
     let mut place = from;
     let mut j: u32 = 0;
     while j < count {
@@ -46,6 +56,7 @@ fn all_starts(
                 return StartList {
                     outcome: Outcome::Refused(r),
                     at: 0,
+                    count,
                     starts: list,
                 };
             }
@@ -58,47 +69,27 @@ fn all_starts(
     StartList {
         outcome: Outcome::Accepted,
         at: place.at,
+        count,
         starts: list,
     }
 }
 
-// An instrument without starts, with so many.
-fn with_starts(file: &[u8], from: Cursor, count: u32, mut t: Instrument) -> Step
-    requires { ⌜ (count ≤ limits .starts) × Fits (limits .components) (limits .nodes) 0 t ⌝ }
-    ensures { λ q. ⌜ Adds (now (file .entry)) (times count addStart) t (from .at) q ⌝ }
-    ensures { λ q. ⌜ Fits (limits .components) (limits .nodes) (limits .starts) (q .instrument) ⌝ }
+// The start count and the starts of n components of these sizes, if the file is accepted so far.
+pub fn starts(
+    file: &[u8],
+    so_far: Outcome,
+    from: Cursor,
+    n: u32,
+    sizes: [u32; Instrument::MAX_COMPONENTS],
+) -> StartList
+    requires { ⌜ n ≤ limits .components ⌝ }
+    ensures { λ r. ⌜ ReadsStarts (now (file .entry)) «so_far» (from .at) n sizes r ⌝ }
 {
-    let others = t.starts;
-    let sizes = t.states;
-    let read = all_starts(file, from, count, t.components as usize, sizes, others);
-    let outcome = read.outcome;
-    match outcome {
-        Outcome::Refused(r) => step::refused(r),
-        Outcome::Accepted => {
-            let list = read.starts;
-            t.startcount = count;
-            t.starts = list;
-            step::accepted(Cursor { at: read.at }, t)
-        }
-    }
-}
-
-// The start count and the starts.
-pub fn starts(file: &[u8], before: Step) -> Step
-    requires { ⌜ Fits (limits .components) (limits .nodes) 0 (before .instrument) ⌝ }
-    ensures { λ q. ⌜ Goes (now (file .entry)) readStarts before q ⌝ }
-    ensures { λ q. ⌜ Fits (limits .components) (limits .nodes) (limits .starts) (q .instrument) ⌝ }
-{
-    let outcome = before.outcome;
-    match outcome {
-        Outcome::Refused(r) => step::refused(r),
-        Outcome::Accepted => {
-            let t = before.instrument;
-            let from = Cursor { at: before.at };
-            match from.between(file, 0, 64, Refusal::Range) {
-                Read::Refused(r) => step::refused(r),
-                Read::Number(count, first) => with_starts(file, first, count, t),
-            }
-        }
+    match so_far {
+        Outcome::Refused(r) => no_starts(r),
+        Outcome::Accepted => match from.between(file, 0, 64, Refusal::Range) {
+            Read::Refused(r) => no_starts(r),
+            Read::Number(count, first) => all_starts(file, first, count, n as usize, sizes),
+        },
     }
 }

@@ -3,7 +3,7 @@ use mathlib.Core.Path.{_≡_, refl, sym, ap, _∙_, subst}
 use mathlib.Core.List.{List}
 use native.Mathlib.Omega.{arith}
 use native.Mathlib.Numerals.{add-one}
-use Prim.Native.Nat.{ℕ, zero, suc, _+_, _≤_}
+use Prim.Native.Nat.{ℕ, zero, suc, _+_}
 use Rattle.meaning.specs.File.Parser.{Got, found, fault, on}
 use Rattle.meaning.specs.File.Grammar.{Contents}
 use Rattle.meaning.proofs.File.Lists.{on-assoc}
@@ -21,8 +21,8 @@ use Rattle.parsing.proofs.Parsers.{Was, was, was-fault, on-each}
 
 -- a step that is refused, and one that is accepted
 module _ (q : Step) where
-  pub laid-refused : (r : Refusal) (g : Got Contents) → q ≡ refusedStep r → g ≡ fault (number r) → Laid q g
-  laid-refused r g e h = ap reached e ∙ sym (ap (mapped layout) h)
+  pub laid-refused : (r : Refusal) (g : Got Contents) → q .outcome ≡ Refused r → g ≡ fault (number r) → Laid q g
+  laid-refused r g o h = ap (λ (x : Outcome). reachedBy x (q .at) (q .instrument)) o ∙ sym (ap (mapped layout) h)
 
   pub laid-accepted : (next : Cursor) (t : Instrument) (k : Contents) (g : Got Contents) → q ≡ acceptedStep next t → t ≡ layout k
       → g ≡ found k (next .at) → Laid q g
@@ -39,7 +39,7 @@ module _ (q : Step) where
 module _ (file : List ℕ) where
   module _ (stage : Stage) (p q : Step) where
     -- a refusal stays
-    pub goes-refused : (r : Refusal) → p .outcome ≡ Refused r → q ≡ refusedStep r → Goes file stage p q
+    pub goes-refused : (r : Refusal) → p .outcome ≡ Refused r → q .outcome ≡ Refused r → Goes file stage p q
     goes-refused r o e =
         record {
           on-from =
@@ -105,20 +105,8 @@ module _ (file : List ℕ) where
     pub goes-all : (n m : ℕ) (p q : Step) → n ≡ m → Goes file (times n stage) p q → Goes file (times m stage) p q
     goes-all n m p q e x = subst (λ (n : ℕ). Goes file (times n stage) p q) e x
 
--- the limits of a refused step, and of an accepted one
+-- the limits of a refused step
 pub fits-refused : (c n s : ℕ) (r : Refusal) (q : Step) → q ≡ refusedStep r → Fits c n s (q .instrument)
 fits-refused c n s r q e =
     subst (λ (q : Step). Fits c n s (q .instrument)) (sym e)
     (record { few-components = omega arith; few-signals = omega arith; few-nodes = omega arith; few-starts = omega arith })
-
-pub fits-accepted : (c n s : ℕ) (next : Cursor) (t : Instrument) (q : Step) → q ≡ acceptedStep next t → Fits c n s t → Fits c n s (q .instrument)
-fits-accepted c n s next t q e f = subst (λ (q : Step). Fits c n s (q .instrument)) (sym e) f
-
-pub fits-more : (c n s c′ n′ s′ : ℕ) (t : Instrument) → c ≤ c′ → n ≤ n′ → s ≤ s′ → Fits c n s t → Fits c′ n′ s′ t
-fits-more c n s c′ n′ s′ t x y z f =
-    record {
-      few-components = omega (arith, f .few-components);
-      few-signals = f .few-signals;
-      few-nodes = omega (arith, f .few-nodes);
-      few-starts = omega (arith, f .few-starts);
-    }

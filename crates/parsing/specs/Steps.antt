@@ -34,6 +34,9 @@ reachedBy (Refused r) at t = fault (number r)
 abbrev pub reached : Step → Got Instrument
 reached p = reachedBy (p .outcome) (p .at) (p .instrument)
 
+abbrev pub stepAt : Outcome → ℕ → Instrument → Step
+stepAt o at t = record { outcome = o; at = at; instrument = t }
+
 abbrev pub refusedStep : Refusal → Step
 refusedStep r = record { outcome = Refused r; at = 0; instrument = layout nothing }
 

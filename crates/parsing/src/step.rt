@@ -1,10 +1,9 @@
 // What is read so far.
 use super::Outcome;
-use cursor::Cursor;
 use cursor::Refusal;
 use instrument::Instrument;
 ghost use mathlib.Core.Path.{_≡_};
-ghost use Rattle.parsing.specs.Steps.{refusedStep, acceptedStep};
+ghost use Rattle.parsing.specs.Steps.{refusedStep};
 
 // The instrument of what is read so far and the place reached, or why the file is refused.
 pub struct Step {
@@ -20,15 +19,5 @@ pub fn refused(r: Refusal) -> Step
         outcome: Outcome::Refused(r),
         at: 0,
         instrument: Instrument::empty(),
-    }
-}
-
-pub fn accepted(next: Cursor, instrument: Instrument) -> Step
-    ensures { λ p. ⌜ p ≡ acceptedStep next instrument ⌝ }
-{
-    Step {
-        outcome: Outcome::Accepted,
-        at: next.at,
-        instrument,
     }
 }

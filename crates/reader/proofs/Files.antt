@@ -10,28 +10,27 @@ use Rattle.meaning.proofs.File.Lists.{on-assoc}
 use Rattle.cursor.specs.declared.Refusal.the-variants.{Trailing}
 use Rattle.instrument.specs.declared.Instrument.{Instrument}
 use Rattle.instrument.specs.Layout.{layout}
-use Rattle.parsing.specs.declared.Outcome.the-variants.{Accepted}
-use Rattle.parsing.specs.declared.step.Step.{Step}
+use Rattle.parsing.specs.declared.Outcome.the-variants.{Accepted, Refused}
 use Rattle.parsing.specs.Stages.{mapped}
-use Rattle.parsing.specs.Steps.{refusedStep, Adds, Goes}
-use Rattle.parsing.proofs.Steps.{laid-refused, accepted-was}
+use Rattle.parsing.specs.Steps.{stepAt, Adds}
+use Rattle.parsing.proofs.Steps.{laid-refused}
 use Rattle.tables.specs.Stages.{readTables}
 use Rattle.formulas.specs.Stages.{readNodes, readStarts}
 use Rattle.reader.specs.Stages.{readEnd}
 use Rattle.reader.proofs.Grammar.{read-all}
 
 module _ (file : List ℕ) where
-  pub trailing : (t : Instrument) (at : ℕ) (q : Step) → at < length file → q ≡ refusedStep Trailing → Adds file readEnd t at q
-  trailing t at q h e = record { laid = λ k l. laid-refused q Trailing (readEnd k file at) e (rw (lt-leb (length file) at h) refl) }
+  pub trailing : (t u : Instrument) (at end : ℕ) → at < length file → Adds file readEnd t at (stepAt (Refused Trailing) end u)
+  trailing t u at end h =
+      record { laid = λ k l. laid-refused (stepAt (Refused Trailing) end u) Trailing (readEnd k file at) refl (rw (lt-leb (length file) at h) refl) }
 
-  pub ended : (p : Step) → p .outcome ≡ Accepted → length file ≤ p .at → Goes file readEnd p p
-  ended p o h =
+  pub ended : (t : Instrument) (at : ℕ) → length file ≤ at → Adds file readEnd t at (stepAt Accepted at t)
+  ended t at h =
       record {
-        on-from =
-            λ g l.
-            let w = accepted-was p g o l in
-            let e : readEnd (w .value) file (p .at) ≡ found (w .value) (p .at) = rw (le-leb (length file) (p .at) h) refl in
-            l ∙ ap (mapped layout) (w .is ∙ sym e ∙ sym (ap (λ g. on g (λ k at. readEnd k file at)) (w .is)));
+        laid =
+            λ k l.
+            let e : readEnd k file at ≡ found k at = rw (le-leb (length file) at h) refl in
+            ap (λ (u : Instrument). found u at) l ∙ sym (ap (mapped layout) e);
       }
 
   pub in-stages : on (on (on (readTables file 0) (λ k at. readNodes k file at)) (λ k at. readStarts k file at)) (λ k at. readEnd k file at)

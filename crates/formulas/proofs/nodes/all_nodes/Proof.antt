@@ -12,7 +12,7 @@ use Rattle.meaning.proofs.File.Progress.{Progress, begin, stop, more, end}
 use Rattle.instrument.specs.Layout.{nodeOf}
 use Rattle.parsing.specs.Stages.{mapped}
 use Rattle.parsing.proofs.Parsers.{was, was-fault}
-use Rattle.formulas.specs.Formulas.{gotNode}
+use Rattle.formulas.specs.Formulas.{gotNode, nodeArray}
 use Rattle.formulas.proofs.Layouts.{node-more}
 use Rattle.formulas.proofs.nodes.all_nodes.Statement.{statement}
 use Rattle.formulas.proofs.nodes.all_nodes.Tie as tie
@@ -35,7 +35,7 @@ returns c =
     let loop-test′ = c .before .before .before .before .loop-test in
     let node′ = c .before .before .before .node in
     let stopped = was-fault nodeOf _ _ (sym (ap gotNode (c .before .r .given .1)) ∙ node′ .ensures) in
-    sym (ap (mapped _) (stop _ _ _ _ _ _ _ _ _ _ (loop′ .inv .1) (loop-test′ .taken) _ stopped))
+    (sym (ap (mapped nodeArray) (stop _ _ _ _ _ _ _ _ _ _ (loop′ .inv .1) (loop-test′ .taken) _ stopped)), refl)
 
 loop-again : tie.Need-loop-again Inv-loop μ-loop
 loop-again c =
@@ -50,11 +50,9 @@ loop-again c =
 
 returns-2 : tie.Need-returns-2 Inv-loop μ-loop
 returns-2 c =
-    let a = c .before .before .before .args in
     let p = c .before .loop .inv .1 in
     let e = end _ _ _ _ _ _ _ _ _ _ p (omega arith) in
-    ap (λ l. found l (c .before .loop .place .at)) (p .held)
-    ∙ sym (ap (mapped (λ (ns : List (formula.Node ℕ)). sets (a .others) 0 (map nodeOf ns))) e)
+    (ap (λ l. found l (c .before .loop .place .at)) (p .held) ∙ sym (ap (mapped nodeArray) e), refl)
 
 pub all-nodes-spec : {M : Type 1} → statement M
 all-nodes-spec =

@@ -1,43 +1,36 @@
 use mathlib.Core.Path.{sym, ap, _∙_}
 use Rattle.cursor.specs.Answers.{got}
 use Rattle.cursor.proofs.Judged.{between-le}
-use Rattle.parsing.proofs.Steps.{goes-refused, goes-accepted, fits-refused}
-use Rattle.formulas.proofs.Counted.{uncounted, counted}
+use Rattle.parsing.proofs.Steps.{goes-refused, goes-accepted}
+use Rattle.formulas.proofs.Counted.{uncounted, counted, nodes-added}
 use borrow.Author.Needs.{needs}
 use Rattle.formulas.proofs.nodes.nodes.Statement.{statement}
 use Rattle.formulas.proofs.nodes.nodes.Tie as tie
 
-with-nodes-requires : tie.Need-with-nodes-requires
-with-nodes-requires c κs =
-    let between′ = c .before .before .before .between in
-    let count′ = c .before .count in
-    let pre′ = c .before .before .before .before .before .before .before .before .pre in
-    (between-le _ _ _ _ _ _ _ (sym (between′ .ensures) ∙ ap got (count′ .given .1)), pre′)
+all-nodes-requires : tie.Need-all-nodes-requires
+all-nodes-requires c κs =
+    (between-le _ _ _ _ _ _ _ (sym (c .before .before .before .between .ensures) ∙ ap got (c .before .count .given .1)), c .before .before .before .before .before .before .before .pre)
 
 returns : tie.Need-returns
-returns c =
-    let outcome′ = c .before .before .outcome in
-    (goes-refused _ _ _ _ _ (outcome′ .given .1) (c .refused .ensures), fits-refused _ _ _ _ _ (c .refused .ensures))
+returns c = record { goes = λ t w d n. goes-refused _ _ _ _ _ (c .before .before .so-far .given .1) (c .no-nodes .ensures) }
 
 returns-2 : tie.Need-returns-2
 returns-2 c =
-    let enum-told′ = c .before .before .before .before .before .before .enum-told in
-    let between′ = c .before .before .before .before .between in
-    let r′ = c .before .before .r in (
-      goes-accepted _ _ _ _ (enum-told′ .given .1)
-          (uncounted _ _ _ _ _ _ _ _ (sym (between′ .ensures) ∙ ap got (r′ .given .1)) (c .refused2 .ensures)),
-      fits-refused _ _ _ _ _ (c .refused2 .ensures),
-    )
+    record {
+      goes =
+          λ t w d n. goes-accepted _ _ _ _ (c .before .before .before .before .before .enum-told .given .1)
+          (uncounted _ _ _ _ _ _ _ _ (sym (c .before .before .before .before .between .ensures) ∙ ap got (c .before .before .r .given .1)) (c .no-nodes2 .ensures));
+    }
 
 returns-3 : tie.Need-returns-3
 returns-3 c =
-    let between′ = c .before .before .before .before .between in
-    let count′ = c .before .before .count in
-    let enum-told′ = c .before .before .before .before .before .before .enum-told in (
-      goes-accepted _ _ _ _ (enum-told′ .given .1)
-          (counted _ _ _ _ _ _ _ _ _ (sym (between′ .ensures) ∙ ap got (count′ .given .1)) (c .with-nodes .ensures .0)),
-      c .with-nodes .ensures .1,
-    )
+    let all = c .all-nodes .ensures in
+    record {
+      goes =
+          λ t w d n. goes-accepted _ _ _ _ (c .before .before .before .before .before .enum-told .given .1)
+          (counted _ _ _ _ _ _ _ _ _ (sym (c .before .before .before .before .between .ensures) ∙ ap got (c .before .before .count .given .1))
+          (nodes-added t _ _ _ (c .all-nodes .result) _ _ w d n (all .1) (all .0)));
+    }
 
 pub nodes-spec : {M : Type 1} → statement M
 nodes-spec =
@@ -50,7 +43,7 @@ nodes-spec =
     (λ c. search needs)
     (λ c κs. search needs)
     (λ c. search needs)
-    with-nodes-requires
+    all-nodes-requires
     returns
     returns-2
     returns-3)

@@ -1,7 +1,7 @@
 -- The loop has read the first j starts, and they are stored.
 use mathlib.Core.Path.{_≡_, refl, sym, ap, _∙_}
 use mathlib.Core.List.{List}
-use lib.ListN.{length}
+use lib.ListN.{length, length-replicate}
 use native.Mathlib.Omega.{arith}
 use borrow.Author.Needs.{needs}
 use Prim.Native.Nat.{ℕ, _-_, _≤_}
@@ -13,7 +13,7 @@ use Rattle.instrument.proofs.Rows.{rows-length}
 use Rattle.parsing.specs.Stages.{mapped}
 use Rattle.parsing.specs.Steps.{moved}
 use Rattle.parsing.proofs.Parsers.{was, was-fault}
-use Rattle.formulas.specs.Formulas.{startBy}
+use Rattle.formulas.specs.Formulas.{startBy, startArray}
 use Rattle.formulas.proofs.Layouts.{start-more}
 use Rattle.formulas.proofs.starts.all_starts.Statement.{statement}
 use Rattle.formulas.proofs.starts.all_starts.Tie as tie
@@ -30,13 +30,10 @@ abbrev μ-loop : tie.MeasureT-loop
 loop-holds : tie.Need-loop-holds Inv-loop μ-loop
 loop-holds c = (omega arith, begin _ _ _ _ _ _ _ refl)
 
-others-long : (c : tie.Start Inv-loop μ-loop) → length (c .args .others) ≡ 256
-others-long c = search needs
-
 long : (c : tie.At-loop Inv-loop μ-loop) → 256 ≡ length (c .loop .list)
 long c =
     let p = c .loop .inv .1 in
-    sym (ap length (p .held) ∙ rows-length (limits .components) (p .seen) 0 _ ∙ others-long (c .before .before))
+    sym (ap length (p .held) ∙ rows-length (limits .components) (p .seen) 0 _ ∙ length-replicate {A = ℕ} 256 0)
 
 start-requires : tie.Need-start-requires Inv-loop μ-loop
 start-requires c κs =
@@ -49,7 +46,7 @@ returns c =
     let loop-test′ = c .before .before .before .before .before .before .loop-test in
     let loop′ = c .before .before .before .before .before .before .before .loop in
     let stopped = was-fault (λ vs. done) _ _ (sym (ap moved (c .before .r .given .1)) ∙ start′ .ensures .0) in
-    sym (ap (mapped _) (stop _ _ _ _ _ _ _ _ _ _ (loop′ .inv .1) (loop-test′ .taken) _ stopped))
+    (sym (ap (mapped startArray) (stop _ _ _ _ _ _ _ _ _ _ (loop′ .inv .1) (loop-test′ .taken) _ stopped)), refl)
 
 loop-again : tie.Need-loop-again Inv-loop μ-loop
 loop-again c =
@@ -66,7 +63,7 @@ returns-2 : tie.Need-returns-2 Inv-loop μ-loop
 returns-2 c =
     let p = c .before .loop .inv .1 in
     let e = end _ _ _ _ _ _ _ _ _ _ p (omega arith) in
-    ap (λ l. found l (c .before .loop .place .at)) (p .held) ∙ sym (ap (mapped (rows (limits .components) 0 (c .before .before .before .args .others))) e)
+    (ap (λ l. found l (c .before .loop .place .at)) (p .held) ∙ sym (ap (mapped startArray) e), refl)
 
 pub all-starts-spec : {M : Type 1} → statement M
 all-starts-spec =

@@ -1,0 +1,24 @@
+-- What the functions that read a whole file promise each other.
+use mathlib.Core.List.{List}
+use Prim.Native.Nat.{ℕ}
+use Rattle.instrument.specs.declared.Instrument.{Instrument}
+use Rattle.instrument.specs.Layout.{layout, nothing}
+use Rattle.parsing.specs.declared.Outcome.{Outcome}
+use Rattle.parsing.specs.declared.step.Step.{Step}
+use Rattle.parsing.specs.Steps.{stepAt, Goes}
+use Rattle.tables.specs.Steps.{assembled}
+use Rattle.formulas.specs.Steps.{changed}
+use Rattle.reader.specs.declared.FileRead.{FileRead}
+use Rattle.reader.specs.Stages.{readEnd}
+
+-- the instrument of a whole file
+abbrev pub held : FileRead → List ℕ → List ℕ → Instrument
+held w outs nexts =
+    changed (assembled (layout nothing) (w .shapes) outs nexts) (w .formula .count) (w .formula .nodes) (w .starts .count) (w .starts .starts)
+
+abbrev pub wholeStep : FileRead → List ℕ → List ℕ → Step
+wholeStep w outs nexts = stepAt (w .outcome) (w .starts .at) (held w outs nexts)
+
+-- from one outcome to the other, no byte is left
+pub record Ends (file : List ℕ) (o : Outcome) (at : ℕ) (p : Outcome) : Type 0 where
+  pub goes : (t : Instrument) → Goes file readEnd (stepAt o at t) (stepAt p at t)
