@@ -23,7 +23,7 @@ use Rattle.meaning.specs.Reference.Truth.{part}
 use Rattle.meaning.specs.Reference.Merged.{guardB, mergedB}
 use Rattle.meaning.proofs.Basic.Bounded.{any-same}
 use Rattle.meaning.proofs.Meaning.Index.{part-lt}
-use Rattle.combination.specs.Combined.{barredAt}
+use Rattle.labels.specs.Combined.{barredAt}
 use Rattle.truth.specs.Nodes.{combinedB, combinedWord}
 use Rattle.truth.proofs.Nodes.{combined-guarded}
 use Rattle.merging.proofs.Tables.{Agreeing}
