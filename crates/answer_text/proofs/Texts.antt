@@ -27,7 +27,7 @@ use Rattle.answers.specs.Lines.{wordsLine, hexadecimalLine}
 use Rattle.answers.specs.Questions.{full, merged, listing, stretch}
 use Rattle.answers.specs.Printed.{printed, textAfter, textWithin, listedText, stretchText}
 use Rattle.reader.specs.Outcomes.{faultNumber}
-use Rattle.report.proofs.Lengths.{listing-length}
+use Rattle.listing_lines.proofs.Lengths.{listing-length}
 use Rattle.entry_queries.proofs.Answering.{number-some}
 use Rattle.answer_text.proofs.Outcomes.{outcomeText, Numbered, fitting-numbered, within-numbered, after-numbered}
 

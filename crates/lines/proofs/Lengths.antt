@@ -12,7 +12,7 @@ use Rattle.answers.specs.Listing.{decimal, space, lineEnd, componentLabel, stag
 use Rattle.answers.specs.Lines.{wordAt, nodeLabel, passLabel, failLabel, markLine, markLineAt, markLines}
 use Rattle.answers.specs.Lines.{hexadecimalByte, truthWord, lookupLine, judgementLine}
 use Rattle.text.proofs.Texts.{decimal-length}
-use Rattle.report.proofs.Lengths.{join-short, name-short, verdict-short, stage-short, refusal-line-short}
+use Rattle.listing_lines.proofs.Lengths.{join-short, name-short, verdict-short, stage-short, refusal-line-short}
 
 pub word-short : (i w : ℕ) → length (wordAt i w) ≤ 11
 word-short zero w = omega (arith, decimal-length w)

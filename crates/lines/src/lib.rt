@@ -8,12 +8,12 @@ ghost use lib.ListN.{length};
 ghost use Rattle.answers.specs.Outcomes.{given};
 ghost use Rattle.answers.specs.Lines.{wordsLine, markLines, hexadecimalLine, lookupLine, judgementLine};
 ghost use Rattle.text.specs.Texts.{textOf};
-ghost use Rattle.report.specs.Report.{judgementFrom};
+ghost use Rattle.listing_lines.specs.Lines.{judgementFrom};
 ghost use Rattle.lines.specs.Made.{Made};
+use listing_lines::judgement_line;
 use pieces::byte_text;
 use pieces::mark_text;
 use pieces::word_text;
-use report::lines::judgement_line;
 use text::Text;
 use text::byte;
 

@@ -19,7 +19,7 @@ use Rattle.meaning.proofs.File.Reads.{file-promised}
 use Rattle.answers.specs.Outcomes.{Reply, given, denied, Judgement, judgement, verdictOf, after, within, outcomeCount}
 use Rattle.answers.specs.Outcomes.{fullOutcome, markOutcome, classOutcome, mergedOutcome}
 use Rattle.answers.specs.Listing.{listed, listingText, listingOutcome}
-use Rattle.report.proofs.Lengths.{join-short, few-components, few-states, listing-length}
+use Rattle.listing_lines.proofs.Lengths.{join-short, few-components, few-states, listing-length}
 use Rattle.pinthar.specs.Numbers.{outcomeCode}
 
 -- entries that are at most m

@@ -14,7 +14,7 @@ ghost use Rattle.instrument.specs.Described.{Describes};
 ghost use Rattle.partitions.specs.Classes.{classesOf};
 ghost use Rattle.cursor.specs.Answers.{number};
 ghost use Rattle.text.specs.Texts.{textOf};
-ghost use Rattle.report.specs.Report.{judgementFrom};
+ghost use Rattle.listing_lines.specs.Lines.{judgementFrom};
 ghost use Rattle.answers.specs.Outcomes.{judgement, verdictOf};
 ghost use Rattle.answers.specs.Listing.{listed, listingOutcome, listingText, refusalLine};
 ghost use Rattle.entry_queries.specs.Written.{Answered};

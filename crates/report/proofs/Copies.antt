@@ -15,7 +15,7 @@ use Rattle.instrument.proofs.Rows.{filled-at}
 use Rattle.text.specs.declared.Text.{Text}
 use Rattle.text.specs.Texts.{textOf}
 use Rattle.report.specs.Report.{Spelled, bytesIn}
-use Rattle.report.proofs.Lengths.{listing-length}
+use Rattle.listing_lines.proofs.Lengths.{listing-length}
 
 -- a list is its entries
 list-of : (l : List ℕ) → listBelow (length l) (λ x. getD l x 0) ≡ l

@@ -1,10 +1,9 @@
 -- The listing from the arrays of an instrument that describes a file's contents.
-use mathlib.Core.Path.{_≡_, ap, ap₂, _∙_}
+use mathlib.Core.Path.{_≡_, ap₂}
 use mathlib.Core.List.{List, [], _++_}
-use lib.ListN.{length, getD, take, drop, length-drop}
-use lib.Seq.{length-take-le, getD-take, getD-drop}
+use lib.ListN.{length, getD}
 use native.Mathlib.Omega.{arith}
-use Prim.Native.Nat.{ℕ, _+_, _≤_, _<_}
+use Prim.Native.Nat.{ℕ, _≤_, _<_}
 use Rattle.meaning.specs.Instrument as meaning
 use Rattle.meaning.specs.Instrument.{components, table}
 use Rattle.meaning.specs.File.Grammar.{Contents, instrumentOf}
@@ -12,34 +11,17 @@ use Rattle.meaning.specs.Reference.Answers.{classesAt}
 use Rattle.meaning.proofs.Basic.Entries.{join-same}
 use Rattle.answers.specs.Outcomes.{Judgement}
 use Rattle.answers.specs.Listing as listing
-use Rattle.answers.specs.Listing.{decimal, space, lineEnd, componentLabel, classesLabel, verdictLine, classLine, sizeLine, listingText}
+use Rattle.answers.specs.Listing.{verdictLine, classLine, sizeLine, listingText}
 use Rattle.instrument.specs.declared.Instrument.{Instrument}
 use Rattle.instrument.specs.Described.{Describes}
 use Rattle.instrument.proofs.Bounds.{count-bounds, states-bounds}
 use Rattle.instrument.proofs.Tables.{table-count, table-states}
 use Rattle.partitions.specs.Classes.{classesOf}
 use Rattle.partitions.proofs.Classes.{described-name}
-use Rattle.report.specs.Report.{classLines, Listed}
-use Rattle.report.proofs.Lengths.{lines-short}
-
-pub part-length : (at states : ℕ) (names : List ℕ) → at + states ≤ length names → length (take states (drop at names)) ≡ states
-part-length at states names h = length-take-le states (drop at names) (omega (arith, length-drop at names))
-
--- names that agree make the same line
-line-same : (i states : ℕ) (f g : ℕ → ℕ) → ((x : ℕ) → x < states → f x ≡ g x) → classLine i states f ≡ classLine i states g
-line-same i states f g h =
-    ap (λ l. componentLabel ++ (decimal i ++ (classesLabel ++ (l ++ lineEnd))))
-    (join-same states (λ x. space ++ decimal (f x)) (λ x. space ++ decimal (g x)) (λ x l. ap (λ v. space ++ decimal v) (h x l)))
-
--- the line of a part of the names
-pub line-part : (i at n states : ℕ) (names : List ℕ) (f : ℕ → ℕ) → n ≡ states → at + states ≤ length names
-    → ((x : ℕ) → getD names (at + x) 0 ≡ f x)
-    → classLine i (length (take n (drop at names))) (λ x. getD (take n (drop at names)) x 0) ≡ classLine i states f
-line-part i at n states names f e h g =
-    rw e
-    (ap (λ m. classLine i m (λ x. getD (take states (drop at names)) x 0)) (part-length at states names h)
-    ∙ line-same i states (λ x. getD (take states (drop at names)) x 0) f
-    (λ x l. getD-take states (drop at names) x 0 l ∙ getD-drop at names x 0 ∙ g x))
+use Rattle.listing_lines.specs.Lines.{classLines}
+use Rattle.report.specs.Report.{Listed}
+use Rattle.listing_lines.proofs.Lengths.{lines-short}
+use Rattle.listing_lines.proofs.Names.{line-same}
 
 module _ (t : Instrument) (k : Contents) (d : Describes t k) where
   abbrev I : meaning.Instrument

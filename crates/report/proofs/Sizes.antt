@@ -9,7 +9,7 @@ use Rattle.meaning.specs.File.Grammar.{Contents, instrumentOf, limits}
 use Rattle.meaning.specs.File.Promise.{Promised}
 use Rattle.meaning.specs.Reference.Answers.{classesAt, fullCount, mergedSize}
 use Rattle.meaning.proofs.Merged.Numbers.{classes-few}
-use Rattle.report.proofs.Lengths.{few-components, few-states}
+use Rattle.listing_lines.proofs.Lengths.{few-components, few-states}
 
 count-le : (n : ℕ) (m : ℕ → ℕ) → ((i : ℕ) → i < n → m i ≤ 32) → count n m ≤ 32 ^ n
 count-le zero m h = omega arith

@@ -1,4 +1,2 @@
 -- what the public contracts say
 pub mod Report
--- how far the loops are
-pub mod Appending

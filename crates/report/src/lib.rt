@@ -10,15 +10,13 @@ ghost use Rattle.instrument.specs.Described.{Describes};
 ghost use Rattle.partitions.specs.Classes.{classesOf};
 ghost use Rattle.answers.specs.Listing.{classLines, listingText, refusalLine};
 ghost use Rattle.text.specs.Texts.{textOf};
-ghost use Rattle.report.specs.Report.{judgementFrom, Listed, Spelled, bytesIn};
-
-pub mod lines; // lines.rt: each line
-
+ghost use Rattle.listing_lines.specs.Lines.{judgementFrom};
+ghost use Rattle.report.specs.Report.{Listed, Spelled, bytesIn};
 use instrument::Instrument;
-use lines::class_lines;
-use lines::refusal_line;
-use lines::size_line;
-use lines::verdict_line;
+use listing_lines::class_lines;
+use listing_lines::refusal_line;
+use listing_lines::size_line;
+use listing_lines::verdict_line;
 use text::Text;
 
 // All lines: the verdict with its stage, the class names of every component, and both sizes.

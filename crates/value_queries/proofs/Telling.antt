@@ -26,7 +26,7 @@ use Rattle.instrument.proofs.Bounds.{count-bounds}
 use Rattle.instrument.proofs.Tables.{table-count, table-states}
 use Rattle.merging.specs.Parts.{OfComponents}
 use Rattle.merged_words.proofs.Lookup.{states-listed}
-use Rattle.report.specs.Report.{judgementFrom}
+use Rattle.listing_lines.specs.Lines.{judgementFrom}
 use Rattle.verdict.specs.Answers.{answerOf}
 use Rattle.verdict.specs.declared.Verdict.the-variants as judge
 use Rattle.answers.specs.Outcomes.{Reply, given, denied, replyAfter, asksState, lookedUp, lookupOf, Judgement, judgement, verdictOf}

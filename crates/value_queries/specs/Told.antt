@@ -2,7 +2,7 @@
 use mathlib.Core.Bool.{Bool, true, false}
 use Rattle.cursor.specs.Answers.{number}
 use Rattle.answers.specs.Outcomes.{Reply, given, denied, Judgement}
-use Rattle.report.specs.Report.{judgementFrom}
+use Rattle.listing_lines.specs.Lines.{judgementFrom}
 use Rattle.value_queries.specs.declared.Looked as looked
 use Rattle.value_queries.specs.declared.Judged as judged
 

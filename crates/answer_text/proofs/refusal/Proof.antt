@@ -1,7 +1,7 @@
 use native.Mathlib.Omega.{arith}
 use borrow.Author.Needs.{needs}
 use Rattle.report.specs.Report.{Spelled}
-use Rattle.report.proofs.Lengths.{refusal-line-short}
+use Rattle.listing_lines.proofs.Lengths.{refusal-line-short}
 use Rattle.cursor.specs.Answers.{number}
 use Rattle.answers.specs.Listing.{refusalLine}
 use Rattle.answer_text.proofs.Buffers.{spelled}

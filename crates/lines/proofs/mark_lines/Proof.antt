@@ -4,8 +4,8 @@ use Prim.Native.Nat.{_-_}
 use borrow.Author.Needs.{needs}
 use Rattle.answers.specs.Lines.{markLineAt}
 use Rattle.text.proofs.Texts.{put-length}
-use Rattle.report.specs.Appending.{Appending}
-use Rattle.report.proofs.Appending.{appending-start, appending-room, appending-more, appending-end}
+use Rattle.listing_lines.specs.Appending.{Appending}
+use Rattle.listing_lines.proofs.Appending.{appending-start, appending-room, appending-more, appending-end}
 use Rattle.lines.proofs.Lengths.{mark-short, marks-short}
 use Rattle.lines.proofs.Making.{put-made}
 use Rattle.lines.proofs.mark_lines.Statement.{statement}

@@ -6,8 +6,8 @@ use Rattle.answers.specs.Lines.{wordAt}
 use Rattle.meaning.specs.Reference.Answers.{joinBelow}
 use Rattle.text.specs.Texts.{Put}
 use Rattle.text.proofs.Texts.{put-length}
-use Rattle.report.specs.Appending.{Appending}
-use Rattle.report.proofs.Appending.{appending-start, appending-room, appending-more, appending-end}
+use Rattle.listing_lines.specs.Appending.{Appending}
+use Rattle.listing_lines.proofs.Appending.{appending-start, appending-room, appending-more, appending-end}
 use Rattle.lines.proofs.Lengths.{word-short, words-short}
 use Rattle.lines.proofs.Making.{line-made}
 use Rattle.lines.proofs.words_line.Statement.{statement}

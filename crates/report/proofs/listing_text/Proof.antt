@@ -4,8 +4,8 @@ use Prim.Native.Nat.{_≤_}
 use borrow.Author.Needs.{needs}
 use Rattle.text.specs.Texts.{textOf}
 use Rattle.text.proofs.Texts.{put-more, put-text, put-length}
-use Rattle.report.specs.Report.{judgementFrom}
-use Rattle.report.proofs.Lengths.{verdict-line-short}
+use Rattle.listing_lines.specs.Lines.{judgementFrom}
+use Rattle.listing_lines.proofs.Lengths.{verdict-line-short}
 use Rattle.report.proofs.Sizes.{merged-few, full-few}
 use Rattle.report.proofs.Listings.{described-few, described-short, listing-same}
 use Rattle.report.proofs.listing_text.Statement.{statement}

@@ -4,7 +4,7 @@ use Rattle.meaning.specs.File.Grammar.{Contents, instrumentOf}
 use Rattle.instrument.specs.Described.{Describes}
 use Rattle.answers.specs.Listing.{classLines}
 use Rattle.report.specs.Report.{Spelled}
-use Rattle.report.proofs.Lengths.{classes-length}
+use Rattle.listing_lines.proofs.Lengths.{classes-length}
 use Rattle.answer_text.proofs.Buffers.{spelled}
 use Rattle.answer_text.proofs.entries.instrument_classes.Statement.{statement}
 use Rattle.answer_text.proofs.entries.instrument_classes.Tie as tie

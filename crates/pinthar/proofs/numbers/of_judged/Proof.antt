@@ -5,7 +5,7 @@ use Prim.Native.Nat.{_+_, _<_}
 use mir.Val.{boolByte}
 use borrow.Author.Needs.{needs}
 use Rattle.answers.specs.Outcomes.{given}
-use Rattle.report.specs.Report.{judgementFrom}
+use Rattle.listing_lines.specs.Lines.{judgementFrom}
 use Rattle.value_queries.specs.Told.{judgedReply}
 use Rattle.pinthar.specs.Numbers.{verdictCode}
 use Rattle.pinthar.proofs.numbers.of_judged.Statement.{statement}

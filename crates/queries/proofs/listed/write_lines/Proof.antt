@@ -4,7 +4,8 @@ use Rattle.meaning.specs.File.Grammar.{Contents, instrumentOf}
 use Rattle.instrument.specs.Described.{Describes}
 use Rattle.partitions.specs.Classes.{classesOf}
 use Rattle.answers.specs.Listing.{listingText}
-use Rattle.report.specs.Report.{Listed, Spelled, judgementFrom}
+use Rattle.listing_lines.specs.Lines.{judgementFrom}
+use Rattle.report.specs.Report.{Listed, Spelled}
 use Rattle.report.proofs.Copies.{listing-spelled, spelled-count}
 use Rattle.entry_queries.proofs.Answering.{too-short, written}
 use Rattle.queries.proofs.Lines.{lines-listed}
