@@ -29,6 +29,7 @@ use Rattle.answers.specs.Printed.{printed, textAfter, textWithin, listedText, s
 use Rattle.reader.specs.Outcomes.{faultNumber}
 use Rattle.listing_lines.proofs.Lengths.{listing-length}
 use Rattle.entry_queries.proofs.Answering.{number-some}
+use Rattle.answer_text.specs.Settled.{textBytes}
 use Rattle.answer_text.proofs.Outcomes.{outcomeText, Numbered, fitting-numbered, within-numbered, after-numbered}
 
 -- a buffer of 4,096 words has room for the words of every combination that is built
@@ -113,7 +114,7 @@ module _ (file : List ℕ) (c : ℕ) where
       go (fault r) e z = absurd (omega (arith, located-faults file c r e .0))
 
   -- its bytes in hexadecimal have room: they end within the bytes that settle every input
-  pub stretch-short : (bytes : List ℕ) → bytes ≡ componentBytes file c → 2 * length bytes + 1 ≤ 45057
+  pub stretch-short : (bytes : List ℕ) → bytes ≡ componentBytes file c → 2 * length bytes + 1 ≤ textBytes
   stretch-short bytes b =
       let g = located file c in
       omega (arith, ap length b, length-take (endOf g - startOf g) (drop (startOf g) file), located-end file c)

@@ -3,13 +3,16 @@ use crate::TEXT_BYTES;
 use crate::put;
 use crate::refusal;
 use instrument::Instrument;
+use instrument::Outline;
 use queries::Asked;
 use queries::Written;
 use reader::Outcome;
+use state_words::StateSet;
 ghost use lib.ListN.{length};
 ghost use Rattle.meaning.specs.File.Grammar.{Contents, instrumentOf};
 ghost use Rattle.meaning.specs.Reference.Answers.{markWords};
 ghost use Rattle.instrument.specs.Described.{Describes};
+ghost use Rattle.instrument.specs.Outline.{whole};
 ghost use Rattle.answers.specs.Lines.{markLines};
 ghost use Rattle.answers.specs.Listing.{classLines};
 ghost use Rattle.answers.specs.Questions as asked;
@@ -38,15 +41,18 @@ pub(crate) fn merged(file: &[u8], out: &mut [u8; TEXT_BYTES]) -> usize
     }
 }
 
-// The marks of an instrument: two words for each of at most 4 components and 24 nodes.
-fn instrument_marks(t: Instrument, out: &mut [u8; TEXT_BYTES]) -> usize
-    requires { ⌜ ((k : Contents) × Describes t k) ⌝ }
-    ensures { λ r. ⌜ ((k : Contents) → Describes t k → Made (markLines (length (k .nodes)) (markWords (instrumentOf k))) r (now (out .entry)) (now (out .exit))) ⌝ }
+// Two words for each component and node that there may be.
+const MARK_WORDS: usize = 2 * Instrument::MAX_COMPONENTS * Instrument::MAX_NODES;
+
+// The marks of an instrument.
+fn instrument_marks(t: Outline, nexts: &[StateSet], out: &mut [u8; TEXT_BYTES]) -> usize
+    requires { ⌜ ((k : Contents) × Describes (whole t (now nexts)) k) ⌝ }
+    ensures { λ r. ⌜ ((k : Contents) → Describes (whole t (now (nexts .entry))) k → Made (markLines (length (k .nodes)) (markWords (instrumentOf k))) r (now (out .entry)) (now (out .exit))) ⌝ }
 {
     let nodes = t.nodecount as usize;
     let n = 2 * t.components as usize * nodes;
-    let mut words = [0u32; 192];
-    marks::nodes::write_marks(t, &mut words);
+    let mut words = [0; MARK_WORDS];
+    marks::nodes::write_marks(t, nexts, &mut words);
     lines::mark_lines(nodes, &words[0..n], out)
 }
 
@@ -54,23 +60,24 @@ fn instrument_marks(t: Instrument, out: &mut [u8; TEXT_BYTES]) -> usize
 pub(crate) fn marks(file: &[u8], out: &mut [u8; TEXT_BYTES]) -> usize
     ensures { λ r. ⌜ Made (printed asked.marks (now (file .entry))) r (now (out .entry)) (now (out .exit)) ⌝ }
 {
-    let reading = reader::read(file);
+    let mut nexts: [StateSet; Instrument::ALL_NEXTS] = [0; Instrument::ALL_NEXTS];
+    let reading = reader::read(file, &mut nexts);
     let outcome = reading.outcome;
     match outcome {
         Outcome::Refused(cause) => refusal(cause, out),
         Outcome::Accepted => {
-            let t = reading.instrument;
-            instrument_marks(t, out)
+            let t = reading.outline;
+            instrument_marks(t, &nexts, out)
         }
     }
 }
 
 // The class names of an instrument.
-fn instrument_classes(t: Instrument, out: &mut [u8; TEXT_BYTES]) -> usize
-    requires { ⌜ ((k : Contents) × Describes t k) ⌝ }
-    ensures { λ r. ⌜ ((k : Contents) → Describes t k → Made (classLines (instrumentOf k)) r (now (out .entry)) (now (out .exit))) ⌝ }
+fn instrument_classes(t: Outline, nexts: &[StateSet], out: &mut [u8; TEXT_BYTES]) -> usize
+    requires { ⌜ ((k : Contents) × Describes (whole t (now nexts)) k) ⌝ }
+    ensures { λ r. ⌜ ((k : Contents) → Describes (whole t (now (nexts .entry))) k → Made (classLines (instrumentOf k)) r (now (out .entry)) (now (out .exit))) ⌝ }
 {
-    let names = partitions::all_classes(t);
+    let names = partitions::all_classes(t, nexts);
     put(report::class_text(t, names), out)
 }
 
@@ -78,13 +85,14 @@ fn instrument_classes(t: Instrument, out: &mut [u8; TEXT_BYTES]) -> usize
 pub(crate) fn classes(file: &[u8], out: &mut [u8; TEXT_BYTES]) -> usize
     ensures { λ r. ⌜ Made (printed asked.classes (now (file .entry))) r (now (out .entry)) (now (out .exit)) ⌝ }
 {
-    let reading = reader::read(file);
+    let mut nexts: [StateSet; Instrument::ALL_NEXTS] = [0; Instrument::ALL_NEXTS];
+    let reading = reader::read(file, &mut nexts);
     let outcome = reading.outcome;
     match outcome {
         Outcome::Refused(cause) => refusal(cause, out),
         Outcome::Accepted => {
-            let t = reading.instrument;
-            instrument_classes(t, out)
+            let t = reading.outline;
+            instrument_classes(t, &nexts, out)
         }
     }
 }

@@ -20,10 +20,10 @@ ghost use Rattle.answer_text.specs.Settled.{Settled};
 
 // A program reads the first bytes of a file, so many at most: they settle every longer input too (clause `longer` of `answer_text`, from the theorem
 // `limit` of crate meaning).
-pub const FILE_BYTES: usize = 16385;
+pub const FILE_BYTES: usize = 49153;
 
-// Room for every text: 4,096 words of at most eleven bytes each, and the line end.
-pub const TEXT_BYTES: usize = 45057;
+// Room for every text: two digits for each byte that is read, and the line end. 4,096 words of at most twenty digits and a space are shorter.
+pub const TEXT_BYTES: usize = 2 * FILE_BYTES + 1;
 
 // A text in front of the buffer.
 fn put(text: Text, out: &mut [u8; TEXT_BYTES]) -> usize

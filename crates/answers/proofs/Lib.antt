@@ -5,3 +5,4 @@ pub mod Limit
 pub mod Inhabited
 pub mod Printed
 pub mod Asked
+pub mod Wide

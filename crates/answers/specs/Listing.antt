@@ -15,9 +15,12 @@ abbrev pub digitsOf : ℕ → ℕ → List ℕ
 digitsOf zero v = []
 digitsOf (suc places) v = cond (ltb v 10) [] (digitsOf places (v / 10)) ++ ((48 + v % 10) ∷ [])
 
--- a number that 32 bits hold has at most ten
+-- a number that 64 bits hold has at most twenty
+abbrev pub mostDigits : ℕ
+mostDigits = 20
+
 unfoldable pub decimal : ℕ → List ℕ
-decimal v = digitsOf 10 v
+decimal v = digitsOf mostDigits v
 
 abbrev pub lineEnd : List ℕ
 lineEnd = 10 ∷ []

@@ -19,8 +19,8 @@ use Rattle.meaning.specs.Reference.Verdict.{verdictB}
 use Rattle.meaning.specs.Reference.Answers.{Outcome, refused, entries, fitting, fullCount, fullWords, markWords, classNames, classesAt, mergedSize, mergedWords}
 
 -- the largest combination that is built
-abbrev pub mostStates : ℕ
-mostStates = 4096
+abbrev pub mostCombined : ℕ
+mostCombined = 4096
 
 -- the outcome for the instrument of an accepted file, else the number of the file's first fault
 abbrev pub after : Got Contents → (Instrument → Outcome) → Outcome
@@ -29,7 +29,7 @@ after (fault r) f = refused r
 
 -- an outcome that a combination of so many states allows, else the number of its refusal
 abbrev pub within : ℕ → ℕ → Outcome → Outcome
-within size r o = choose (leb size mostStates) o (refused r)
+within size r o = choose (leb size mostCombined) o (refused r)
 
 -- the questions that lend a buffer, with so much room
 unfoldable pub fullOutcome : List ℕ → ℕ → Outcome
@@ -69,7 +69,7 @@ lookedUp I s =
     (λ i. getD s i 0)
 
 abbrev pub lookupOf : Instrument → List ℕ → Reply Bool
-lookupOf I s = choose (asksState I s) (choose (leb (mergedSize I) mostStates) (given (lookedUp I s)) (denied 12)) (denied 9)
+lookupOf I s = choose (asksState I s) (choose (leb (mergedSize I) mostCombined) (given (lookedUp I s)) (denied 12)) (denied 9)
 
 unfoldable pub lookupReply : List ℕ → List ℕ → Reply Bool
 lookupReply file s = replyAfter (readFile file) (λ I. lookupOf I s)
@@ -86,7 +86,7 @@ judgement oversized = denied 12
 
 abbrev pub verdictOf : Instrument → Answer
 verdictOf I =
-    verdictB (components I) (table I) (λ i. wholeWords (table I i)) (rootFormula I) mostStates (I .signals) (high (components I) (table I))
+    verdictB (components I) (table I) (λ i. wholeWords (table I i)) (rootFormula I) mostCombined (I .signals) (high (components I) (table I))
     (λ start i. getD start i 0) (I .starts)
 
 unfoldable pub verdictReply : List ℕ → Reply Judgement

@@ -10,7 +10,7 @@ use Rattle.meaning.specs.File.Number.{choose}
 use Rattle.meaning.specs.File.Grammar.{Contents, instrumentOf, readFile}
 use Rattle.meaning.specs.File.Stretches.{Stretch, located}
 use Rattle.meaning.specs.Reference.Answers.{fullCount, fullWords, markWords, mergedSize, mergedWords}
-use Rattle.answers.specs.Outcomes.{Reply, given, denied, Judgement, judgement, verdictOf, mostStates, lookupReply, verdictReply, componentBytes}
+use Rattle.answers.specs.Outcomes.{Reply, given, denied, Judgement, judgement, verdictOf, mostCombined, lookupReply, verdictReply, componentBytes}
 use Rattle.answers.specs.Listing.{lineEnd, refusalLine, classLines, listingText}
 use Rattle.answers.specs.Lines.{wordsLine, markLines, hexadecimalLine, lookupLine, judgementLine}
 use Rattle.answers.specs.Questions.{Question, full, marks, classes, merged, listing, verdict, stretch, lookup, unknown}
@@ -23,7 +23,7 @@ textAfter (fault r) f = refusalLine r
 
 -- the text that a combination of so many states allows, else the line of its refusal
 abbrev pub textWithin : ℕ → ℕ → List ℕ → List ℕ
-textWithin size r text = choose (leb size mostStates) text (refusalLine r)
+textWithin size r text = choose (leb size mostCombined) text (refusalLine r)
 
 -- the listing with this verdict, or the verdict's refusal
 abbrev pub listedText : Instrument → Reply Judgement → List ℕ

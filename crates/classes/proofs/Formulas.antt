@@ -13,6 +13,7 @@ use Rattle.meaning.specs.View.{View}
 use Rattle.meaning.specs.Reference.Marks.{passB, failB}
 use Rattle.meaning.specs.Reference.Relation.{largestB, relB, ruleB}
 use Rattle.meaning.specs.StepWords.{stepTable}
+use Rattle.meaning.specs.File.Grammar.{mostStates}
 use Rattle.classes.specs.Rows.{rel, rows}
 use Rattle.classes.specs.Related.{relatedAll, relatedBoth, relatedEx, relatedFixed}
 use Rattle.classes.proofs.Rows.{rel-rows, rows-same}
@@ -21,7 +22,7 @@ use Rattle.classes.proofs.Agree.{AgreePairs, rule-agree, largest-agree,
 module _
     {A : Type 0}
     (n : ℕ)
-    (m : n ≤ 32)
+    (m : n ≤ mostStates)
     (inputs outputs outs succ compared : List ℕ)
     (κ : View A)
     (same : (x : ℕ) → x < n → getD compared x 0 ≡ κ .compared x)

@@ -5,12 +5,11 @@ pub mod Rows
 pub mod Loops
 pub mod Row
 pub mod Members
+pub mod Changed
 -- The rule of EX, EG and EU: matching of successors, one round
 pub mod Agree
 pub mod Matched
 pub mod Ruled
--- Names and count of classes
-pub mod Naming
 -- What the definitions mean; a formula's relation from those of its operands
 pub mod Meaning
 pub mod Formulas

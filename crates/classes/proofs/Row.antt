@@ -52,20 +52,30 @@ kept-row n own pass fail alike x =
     f : ℕ
     f = cond (has fail x) fail 0
 
--- what is kept of a row, where the alike are those that pass g and are in two rows
-pub ruled-row : (n own pass fail x s f b : ℕ) (g : ℕ → Bool) → s ≡ built n g
-    → kept n own pass fail (intersection s (intersection f b)) x
-    ≡ built n (λ y. has own y && ((has pass x && has pass y) || ((has fail x && has fail y) || (g y && (has f y && has b y)))))
+-- a state that is tested to be in a row need not be tested again
+own-alone : (o p q m g : Bool) → (o && (p || (q || ((o && m) && g)))) ≡ (o && (p || (q || (g && m))))
+own-alone true p q true true = refl
+own-alone true p q true false = refl
+own-alone true p q false true = refl
+own-alone true p q false false = refl
+own-alone false p q m g = refl
+
+-- what is kept of a row r, where the alike are those of it that are in two rows f and b and pass g
+pub ruled-row : (n r pass fail x f b : ℕ) (g : ℕ → Bool) {own alike : ℕ} → own ≡ intersection (below n) r
+    → alike ≡ built n (λ y. has (intersection own (intersection f b)) y && g y)
+    → kept n own pass fail alike x
+    ≡ built n (λ y. has r y && ((has pass x && has pass y) || ((has fail x && has fail y) || (g y && (has f y && has b y)))))
 unfolding kept
-ruled-row n own pass fail x s f b g e =
+ruled-row n r pass fail x f b g {own} {alike} e a =
     built-same n (λ y. has own y && ((has pass x && has pass y) || ((has fail x && has fail y) || has alike y)))
-    (λ y. has own y && ((has pass x && has pass y) || ((has fail x && has fail y) || (g y && (has f y && has b y))))) (λ y l.
-    ap (λ z. has own y && ((has pass x && has pass y) || ((has fail x && has fail y) || z)))
-    (has-intersection s (intersection f b) y
-    ∙ ap₂ (λ p q. p && q) (ap (λ z. has z y) e ∙ has-built n g y l) (has-intersection f b y)))
+    (λ y. has r y && ((has pass x && has pass y) || ((has fail x && has fail y) || (g y && (has f y && has b y))))) (λ y l.
+    ap₂ (λ o z. o && ((has pass x && has pass y) || ((has fail x && has fail y) || z))) (own-at y l)
+    (ap (λ v. has v y) a ∙ (has-built n (λ y. has (intersection own (intersection f b)) y && g y) y l
+    ∙ ap (λ z. z && g y) (has-intersection own (intersection f b) y ∙ ap₂ (λ o z. o && z) (own-at y l) (has-intersection f b y))))
+    ∙ own-alone (has r y) (has pass x && has pass y) (has fail x && has fail y) (has f y && has b y) (g y))
   where
-    alike : ℕ
-    alike = intersection s (intersection f b)
+    own-at : (y : ℕ) → y < n → has own y ≡ has r y
+    own-at y l = ap (λ v. has v y) (e ∙ cut-built n r) ∙ has-built n (has r) y l
 
 -- the states with the level of x, where the states with level true are given
 beq-true : (c : Bool) → c ≡ Bool·beq true c

@@ -8,13 +8,14 @@ use Prim.Native.Nat.{ℕ, _≤_, _<_}
 use Rattle.words.specs.Sets.{has}
 use Rattle.meaning.specs.Reference.Relation.{matchedB, ruleB}
 use Rattle.meaning.specs.StepWords.{stepTable}
+use Rattle.meaning.specs.File.Grammar.{mostStates}
 use Rattle.classes.specs.Rows.{rel}
 use Rattle.classes.specs.Related.{relatedEx}
 use Rattle.classes.specs.Matching.{conversed, matchedBy, matchedRows, rules, ruled}
 use Rattle.classes.proofs.Rows.{rel-rows, rows-same}
 use Rattle.classes.proofs.Agree.{matched-agree}
 
-pub converse-at : (n : ℕ) (r : List ℕ) (x y : ℕ) → n ≤ 32 → x < n → y < n → rel (conversed n r) x y ≡ rel r y x
+pub converse-at : (n : ℕ) (r : List ℕ) (x y : ℕ) → n ≤ mostStates → x < n → y < n → rel (conversed n r) x y ≡ rel r y x
 unfolding conversed
 converse-at n r x y m l k = rel-rows n (λ x y. rel r y x) x y m l k
 
@@ -23,7 +24,7 @@ again : (o p q e f b : Bool) → (o && (p || (q || (e && ((o && f) && (o && b)))
 again true p q e f b = refl
 again false p q e f b = refl
 
-module _ (states inputs : ℕ) (succ compared : List ℕ) (m : states ≤ 32) where
+module _ (states inputs : ℕ) (succ compared : List ℕ) (m : states ≤ mostStates) where
   matched-at : (r : List ℕ) (fail x y : ℕ) → x < states → y < states
       → rel (matchedRows states inputs succ r fail) x y ≡ (rel r x y && matchedBy states inputs succ r fail x y)
   unfolding matchedRows

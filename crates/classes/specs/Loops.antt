@@ -1,14 +1,13 @@
--- What the loops keep: a word built state by state, a list of 32 filled state by state, and the like.
+-- What the loops keep: a word built state by state, a list with a place for each state filled state by state, and the like.
 use mathlib.Core.Path.{_≡_}
 use mathlib.Core.Bool.{Bool, _&&_}
 use mathlib.Core.List.{List}
 use lib.Dec.{T}
-use lib.ListN.{getD}
 use Prim.Native.Nat.{ℕ, _^_, _≤_}
 use Rattle.words.specs.Sets.{has, built}
 use Rattle.words.specs.Passing.{Passing}
-use Rattle.meaning.specs.Classes.{classesBelow}
 use Rattle.meaning.specs.Reference.Tests.{allBelow}
+use Rattle.meaning.specs.File.Grammar.{mostStates}
 use Rattle.classes.specs.Rows.{padded, rel}
 use Rattle.classes.specs.Matching.{matchedOn}
 
@@ -20,7 +19,7 @@ pub record Building (n : ℕ) (f : ℕ → Bool) (w x : ℕ) : Type 0 where
 -- l has f below x, and 0 from x on, on the way to n
 pub record Filling (n : ℕ) (f : ℕ → ℕ) (l : List ℕ) (x : ℕ) : Type 0 where
   pub bound : x ≤ n
-  pub list : l ≡ padded 32 x f
+  pub list : l ≡ padded mostStates x f
 
 -- m is the union of the rows of w's members but for those in `rest`
 pub record Joining (w : ℕ) (r : List ℕ) (m rest : ℕ) : Type 0 where
@@ -33,12 +32,6 @@ pub record Sifting (f : ℕ → Bool) (w result rest : ℕ) : Type 0 where
   pub keeps : (t : ℕ) → T (has w t) → T (f t) → T (has result t)
   pub only : (t : ℕ) → T (has result t) → T (has w t)
   pub less : result ≤ w
-
--- count is how many states below x are the name of their class, on the way to n
-pub record Counting (n : ℕ) (names : List ℕ) (count x : ℕ) : Type 0 where
-  pub bound : x ≤ n
-  pub few : count ≤ x
-  pub counted : count ≡ classesBelow (λ x. getD names x 0) x
 
 -- w is the set of the states in `among` whose successors on the assignments below a are matched by those of x
 pub record MatchingOn (states inputs : ℕ) (succ r : List ℕ) (fail x among w a : ℕ) : Type 0 where

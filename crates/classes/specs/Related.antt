@@ -1,5 +1,5 @@
--- When two states of one component are related at a node, as rows (document 01, Classes). What each definition means is proved in
--- proofs/Meaning.
+-- When two states of one component are related at a node, as rows (document 01, Classes). What they mean for a
+-- formula is proved in proofs/Formulas.
 use mathlib.Core.Bool.{true, _&&_, Bool·beq}
 use mathlib.Core.List.{List}
 use lib.ListN.{getD}

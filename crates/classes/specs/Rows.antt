@@ -5,6 +5,7 @@ use lib.Dec.{ltb}
 use lib.ListN.{getD}
 use Prim.Native.Nat.{ℕ, zero, suc}
 use Rattle.words.specs.Sets.{has, built}
+use Rattle.meaning.specs.File.Grammar.{mostStates}
 
 -- the list of the k numbers f 0, f 1, ..
 unfoldable pub tabulated : ℕ → (ℕ → ℕ) → List ℕ
@@ -19,6 +20,6 @@ padded k n f = tabulated k (λ x. cond (ltb x n) (f x) 0)
 abbrev pub rel : List ℕ → ℕ → ℕ → Bool
 rel r x y = has (getD r x 0) y
 
--- the 32 rows of a test of pairs of states below n; every other bit is 0
+-- the rows of a test of pairs of states below n; every other bit is 0
 unfoldable pub rows : ℕ → (ℕ → ℕ → Bool) → List ℕ
-rows n b = padded 32 n (λ x. built n (b x))
+rows n b = padded mostStates n (λ x. built n (b x))

@@ -3,33 +3,39 @@ ghost use mathlib.Core.Path.{_≡_};
 ghost use mathlib.Core.Bool.{cond};
 ghost use Prim.Native.Nat.{_≤_, _<_};
 ghost use lib.ListN.{length, getD};
-ghost use Rattle.words.specs.Sets.{has, built, insert};
-ghost use Rattle.classes.specs.Rows.{rel};
+ghost use Rattle.words.specs.Sets.{has, built, insert, union};
+ghost use Rattle.meaning.specs.File.Grammar.{mostStates};
 ghost use Rattle.classes.specs.Related.{relatedAll, relatedLevel, relatedBoth};
 ghost use Rattle.classes.specs.Matching.{conversed};
+ghost use Rattle.classes.specs.Changed.{Changed};
+use instrument::Instrument;
+use state_words::StateSet;
+
+// A relation: a row for each state, the states that it is related to.
+pub type Rows = [StateSet; Instrument::MAX_STATES];
 
 // w, and t besides if yes.
-pub(crate) fn put(w: u32, t: usize, yes: bool) -> u32
-    requires { ⌜ t < 32 ⌝ }
+pub fn put(w: StateSet, t: usize, yes: bool) -> StateSet
+    requires { ⌜ t < mostStates ⌝ }
     ensures { λ r. ⌜ r ≡ cond yes (insert w t) w ⌝ }
 {
-    if yes { words::insert(w, t as u32) } else { w }
+    if yes { state_words::insert(w, t) } else { w }
 }
 
 // a if yes, else b.
-pub fn pick(yes: bool, a: u32, b: u32) -> u32
+pub fn pick(yes: bool, a: StateSet, b: StateSet) -> StateSet
     ensures { λ r. ⌜ r ≡ cond yes a b ⌝ }
 {
     if yes { a } else { b }
 }
 
 // Every state is related to every state (true, foreign signal).
-pub fn rel_all(states: usize) -> [u32; 32]
-    requires { ⌜ states ≤ 32 ⌝ }
+pub fn rel_all(states: usize) -> Rows
+    requires { ⌜ states ≤ mostStates ⌝ }
     ensures { λ r. ⌜ r ≡ relatedAll states ⌝ }
 {
-    let all = words::below(states as u32);
-    let mut result = [0u32; 32];
+    let all = state_words::below(states);
+    let mut result = [0; Instrument::MAX_STATES];
     let mut x: usize = 0;
     while x < states {
         result[x] = all;
@@ -39,11 +45,11 @@ pub fn rel_all(states: usize) -> [u32; 32]
 }
 
 // The states whose word has bit j.
-fn level_word(outs: &[u32], states: usize, j: u32) -> u32
-    requires { ⌜ (states ≤ 32) × (states ≤ length (now outs)) × (j < 32) ⌝ }
+fn level_word(outs: &[u32], states: usize, j: u32) -> StateSet
+    requires { ⌜ (states ≤ mostStates) × (states ≤ length (now outs)) × (j < 32) ⌝ }
     ensures { λ r. ⌜ r ≡ built states (λ y. has (getD (now (outs .entry)) y 0) j) ⌝ }
 {
-    let mut result: u32 = 0;
+    let mut result: StateSet = 0;
     let mut y: usize = 0;
     while y < states {
         result = put(result, y, words::member(outs[y], j));
@@ -53,13 +59,13 @@ fn level_word(outs: &[u32], states: usize, j: u32) -> u32
 }
 
 // States with the same level of the j-th listed output are related (own signal).
-pub fn rel_level(outs: &[u32], states: usize, j: u32) -> [u32; 32]
-    requires { ⌜ (states ≤ 32) × (states ≤ length (now outs)) × (j < 32) ⌝ }
+pub fn rel_level(outs: &[u32], states: usize, j: u32) -> Rows
+    requires { ⌜ (states ≤ mostStates) × (states ≤ length (now outs)) × (j < 32) ⌝ }
     ensures { λ r. ⌜ r ≡ relatedLevel (now (outs .entry)) states j ⌝ }
 {
     let high = level_word(outs, states, j);
-    let low = words::complement(high, states as u32);
-    let mut result = [0u32; 32];
+    let low = state_words::complement(high, states);
+    let mut result = [0; Instrument::MAX_STATES];
     let mut x: usize = 0;
     while x < states {
         result[x] = pick(words::member(outs[x], j), high, low);
@@ -69,43 +75,44 @@ pub fn rel_level(outs: &[u32], states: usize, j: u32) -> [u32; 32]
 }
 
 // What is related by both (operands of or, EU).
-pub fn rel_both(a: [u32; 32], b: [u32; 32], states: usize) -> [u32; 32]
-    requires { ⌜ states ≤ 32 ⌝ }
-    ensures { λ r. ⌜ r ≡ relatedBoth states a b ⌝ }
+pub fn rel_both(a: &Rows, b: &Rows, states: usize) -> Rows
+    requires { ⌜ states ≤ mostStates ⌝ }
+    ensures { λ r. ⌜ r ≡ relatedBoth states (now (a .entry)) (now (b .entry)) ⌝ }
 {
-    let all = words::below(states as u32);
-    let mut result = [0u32; 32];
+    let all = state_words::below(states);
+    let mut result = [0; Instrument::MAX_STATES];
     let mut x: usize = 0;
     while x < states {
-        result[x] = words::intersection(all, words::intersection(a[x], b[x]));
+        result[x] = state_words::intersection(all, state_words::intersection(a[x], b[x]));
         x += 1;
     }
     result
 }
 
-// The states whose row has y.
-fn column(r: [u32; 32], states: usize, y: usize) -> u32
-    requires { ⌜ (states ≤ 32) × (y < states) ⌝ }
-    ensures { λ w. ⌜ w ≡ built states (λ x. rel r x y) ⌝ }
+// Puts `more` into the words at some places.
+pub fn mark(words: &mut Rows, places: StateSet, more: StateSet)
+    requires { ⌜ length (now words) ≡ mostStates ⌝ }
+    ensures { λ _. ⌜ Changed (union more) places (now (words .entry)) (now (words .exit)) ⌝ }
 {
-    let mut result: u32 = 0;
-    let mut x: usize = 0;
-    while x < states {
-        result = put(result, x, words::member(r[x], y as u32));
-        x += 1;
+    let mut rest = places;
+    while rest != 0 {
+        let z = state_words::lowest(rest);
+        words[z] = state_words::union(more, words[z]);
+        rest = state_words::without_lowest(rest);
     }
-    result
 }
 
-// The converse relation.
-pub fn converse(r: [u32; 32], states: usize) -> [u32; 32]
-    requires { ⌜ states ≤ 32 ⌝ }
-    ensures { λ s. ⌜ s ≡ conversed states r ⌝ }
+// The converse relation: each state is put into the rows of those that it is related to.
+pub fn converse(r: &Rows, states: usize) -> Rows
+    requires { ⌜ states ≤ mostStates ⌝ }
+    ensures { λ s. ⌜ s ≡ conversed states (now (r .entry)) ⌝ }
 {
-    let mut result = [0u32; 32];
+    let all = state_words::below(states);
+    let mut result = [0; Instrument::MAX_STATES];
     let mut x: usize = 0;
     while x < states {
-        result[x] = column(r, states, x);
+        let related = state_words::intersection(all, r[x]);
+        mark(&mut result, related, state_words::insert(0, x));
         x += 1;
     }
     result

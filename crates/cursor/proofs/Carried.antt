@@ -3,13 +3,15 @@ use mathlib.Core.Path.{_≡_, refl, sym, ap, _∙_}
 use mathlib.Core.List.{List}
 use lib.ListN.{length, getD}
 use lib.Pow.{pow-add, pow-mono}
-use native.Mathlib.Nat.{not-suc-le-zero, mul-add, mul-assoc, mul-suc, mul-le-mul-left}
+use native.Mathlib.Nat.{not-suc-le-zero, le-trans, mul-add, mul-assoc, mul-suc, mul-le-mul-left, mul-le-mul-right}
 use native.Mathlib.Omega.{arith}
 use borrow.Author.Tests.{lt-ltb, le-ltb}
 use Prim.Native.Nat.{ℕ, zero, suc, _+_, _-_, _*_, _%_, _^_, _≤_, _<_}
 use Rattle.meaning.specs.File.Parser.{Got, found, fault}
 use Rattle.meaning.specs.File.Number.{withHigher}
+use Rattle.meaning.specs.File.Grammar.{limits}
 use Rattle.cursor.specs.Carried.{carried, Carrying}
+use Rattle.cursor.specs.Width.{numberEnd}
 use Rattle.cursor.proofs.Numbers.{groupsAt, goes-on}
 
 module _ (weight value : ℕ) where
@@ -65,14 +67,16 @@ module _ (file : List ℕ) (at more : ℕ) where
     weight-le : (k : ℕ) → 7 * (more - left) ≤ k → weight ≤ 2 ^ k
     weight-le k h = rw (d .scale) (pow-mono h)
 
-    -- of at most five groups the last one, at most 15, fits into 32 bits, and every other one into 28
-    pub last-room : (b : ℕ) → more ≤ 4 → b ≤ 15 → value + weight * b < 2 ^ 32
-    last-room b m h = omega (arith, fits b 15 h, weight-le 28 (omega arith))
+    -- a group in the last possible place leaves the value a number of the file; before it there is room for every group, whatever it is
+    pub last-room : (b : ℕ) → more ≤ limits .groupsBefore → b ≤ limits .lastGroup → value + weight * b < numberEnd
+    last-room b m h =
+        le-trans (fits b (limits .lastGroup) h) (mul-le-mul-right (suc (limits .lastGroup)) (weight-le (7 * limits .groupsBefore) (omega arith)))
 
-    pub weight-room : more ≤ 4 → 0 < left → weight * 128 ≤ 2 ^ 28
-    weight-room m l = omega (arith, weight-le 21 (omega (arith, d .reached)))
+    pub weight-room : more ≤ limits .groupsBefore → 0 < left → weight * 128 ≤ 2 ^ (7 * limits .groupsBefore)
+    weight-room m l =
+        omega (arith, weight-le (7 * (limits .groupsBefore - 1)) (omega (arith, d .reached)))
 
-    pub room : (b : ℕ) → more ≤ 4 → 0 < left → b < 128 → value + weight * b < 2 ^ 28
+    pub room : (b : ℕ) → more ≤ limits .groupsBefore → 0 < left → b < 128 → value + weight * b < 2 ^ (7 * limits .groupsBefore)
     room b m l h = omega (arith, fits b 127 (omega arith), weight-room m l)
 
     pub next : place < length file → 0 < left → 128 ≤ getD file place 0

@@ -4,6 +4,8 @@ use Rattle.meaning.specs.File.Parser.{Got, found, fault}
 use Rattle.cursor.specs.declared.Refusal.{Refusal}
 use Rattle.cursor.specs.declared.Refusal.the-variants.{Ended, Form, Range, Order, Driven, Bits, Formula, Undriven, Start, Trailing}
 use Rattle.cursor.specs.declared.Refusal.the-variants.{FullSize, MergedSize, Short, Clash}
+use Rattle.cursor.specs.declared.Wide.{Wide}
+use Rattle.cursor.specs.declared.Wide.the-variants.{Whole, Unread}
 use Rattle.cursor.specs.declared.Read.{Read}
 use Rattle.cursor.specs.declared.Read.the-variants.{Number, Refused}
 
@@ -11,7 +13,7 @@ use Rattle.cursor.specs.declared.Read.the-variants.{Number, Refused}
 abbrev pub number : Refusal → ℕ
 -- the file ends inside or before a number
 number Ended = 1
--- a form that is not the shortest, or above 2^32 - 1
+-- a form that is not the shortest, or above 2^64 - 1
 number Form = 2
 -- a count, or an asked component number, outside its range
 number Range = 3
@@ -37,6 +39,10 @@ number MergedSize = 12
 number Short = 13
 -- a start marked PASS by one component and FAIL by another
 number Clash = 14
+
+abbrev pub gotWide : Wide → Got ℕ
+gotWide (Whole v next) = found v (next .at)
+gotWide (Unread r) = fault (number r)
 
 abbrev pub got : Read → Got ℕ
 got (Number v next) = found v (next .at)

@@ -6,6 +6,7 @@ use lib.ListN.{drop}
 use Prim.Native.Nat.{ℕ, zero, suc, _+_, _-_, _*_, _^_, _≤_, _<_}
 use Rattle.meaning.specs.File.Parser.{Got, found, fault}
 use Rattle.meaning.specs.File.Number.{groups, choose}
+use Rattle.meaning.specs.File.Grammar.{limits}
 
 -- The whole number, of the value of the lower groups and of the higher ones, which count `weight` times. Higher groups of value 0 are not the
 -- shortest form, unless nothing is below them.
@@ -19,4 +20,4 @@ pub record Carrying (file : List ℕ) (at more value weight place left : ℕ) : 
   pub reached : left ≤ more
   pub scale : weight ≡ 2 ^ (7 * (more - left))
   pub below : value < weight
-  pub same : groups 15 more (drop at file) at ≡ carried weight value (groups 15 left (drop place file) place)
+  pub same : groups (limits .lastGroup) more (drop at file) at ≡ carried weight value (groups (limits .lastGroup) left (drop place file) place)

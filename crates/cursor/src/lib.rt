@@ -1,13 +1,14 @@
 // A place in an instrument file, and the numbers read from it (document 01, The instrument file). Each contract equates the answer with what
 // the grammar of crate meaning says at that place (specs/File/Grammar), for every sequence of bytes.
 ghost use mathlib.Core.Path.{_≡_};
-ghost use Prim.Native.Nat.{_+_, _*_, _^_, _≤_, _<_};
+ghost use Prim.Native.Nat.{_+_, _*_, _≤_, _<_};
 ghost use lib.ListN.{drop};
 ghost use Rattle.meaning.specs.File.Parser.{found};
 ghost use Rattle.meaning.specs.File.Number.{groups};
 ghost use Rattle.meaning.specs.File.Grammar as grammar;
-ghost use Rattle.cursor.specs.Answers.{number, got};
+ghost use Rattle.cursor.specs.Answers.{number, got, gotWide};
 ghost use Rattle.cursor.specs.Carried.{carried};
+ghost use Rattle.cursor.specs.Width.{numberEnd};
 
 // Why a call is refused, in the order of document 01's numbers, 1 to 14.
 pub enum Refusal {
@@ -56,7 +57,22 @@ pub struct Cursor {
     pub at: usize,
 }
 
-// A number with the place after it, or why it is refused.
+// A number of the file, at most 2^64 - 1 (document 02, 12/14).
+pub type Number = u64;
+
+// So many groups of a number may stand before the one in the last possible place.
+const GROUPS_BEFORE: u32 = 9;
+
+// The highest group in the last possible place.
+const LAST_GROUP: Number = 1;
+
+// A number as it stands in the file, with the place after it, or why there is none.
+pub enum Wide {
+    Whole(Number, Cursor),
+    Unread(Refusal),
+}
+
+// A number that was judged and then held in 32 bits, with the place after it, or why it is refused.
 pub enum Read {
     Number(u32, Cursor),
     Refused(Refusal),
@@ -64,33 +80,33 @@ pub enum Read {
 
 // The number whose highest group is b, which counts `weight` times, over groups of this value. A highest group 0 is the shortest form only where
 // there is no other.
-fn highest(value: u32, weight: u32, b: u32, next: usize) -> Read
-    requires { ⌜ value + weight * b < 2 ^ 32 ⌝ }
-    ensures { λ r. ⌜ got r ≡ carried weight value (found b next) ⌝ }
+fn highest(value: Number, weight: Number, b: Number, next: usize) -> Wide
+    requires { ⌜ value + weight * b < numberEnd ⌝ }
+    ensures { λ r. ⌜ gotWide r ≡ carried weight value (found b next) ⌝ }
 {
     if 0 < b {
-        return Read::Number(value + weight * b, Cursor { at: next });
+        return Wide::Whole(value + weight * b, Cursor { at: next });
     }
     if 1 < weight {
-        return Read::Refused(Refusal::Form);
+        return Wide::Unread(Refusal::Form);
     }
-    Read::Number(value, Cursor { at: next })
+    Wide::Whole(value, Cursor { at: next })
 }
 
-// The number from the place `at` on, of at most more + 1 groups; a group in the last possible place is at most 15.
-fn groups(file: &[u8], at: usize, more: u32) -> Read
-    requires { ⌜ more ≤ 4 ⌝ }
-    ensures { λ r. ⌜ got r ≡ groups 15 more (drop at (now (file .entry))) at ⌝ }
+// The number from the place `at` on, of at most more + 1 groups.
+fn groups(file: &[u8], at: usize, more: u32) -> Wide
+    requires { ⌜ more ≤ grammar.limits .groupsBefore ⌝ }
+    ensures { λ r. ⌜ gotWide r ≡ groups (grammar.limits .lastGroup) more (drop at (now (file .entry))) at ⌝ }
 {
-    let mut value: u32 = 0;
-    let mut weight: u32 = 1;
+    let mut value: Number = 0;
+    let mut weight: Number = 1;
     let mut place = at;
     let mut left = more;
     while place < file.len() {
-        let b = file[place] as u32;
+        let b = file[place] as Number;
         if left == 0 {
-            if 15 < b {
-                return Read::Refused(Refusal::Form);
+            if LAST_GROUP < b {
+                return Wide::Unread(Refusal::Form);
             }
             return highest(value, weight, b, place + 1);
         }
@@ -102,7 +118,7 @@ fn groups(file: &[u8], at: usize, more: u32) -> Read
         place += 1;
         left -= 1;
     }
-    Read::Refused(Refusal::Ended)
+    Wide::Unread(Refusal::Ended)
 }
 
 impl Cursor {
@@ -114,34 +130,44 @@ impl Cursor {
     }
 
     // The number at this place; most have one group.
-    pub fn number(self, file: &[u8]) -> Read
-        ensures { λ r. ⌜ got r ≡ grammar.number grammar.limits (now (file .entry)) (self .at) ⌝ }
+    pub fn number(self, file: &[u8]) -> Wide
+        ensures { λ r. ⌜ gotWide r ≡ grammar.number grammar.limits (now (file .entry)) (self .at) ⌝ }
     {
         let at = self.at;
         if at < file.len() {
-            let first = file[at] as u32;
+            let first = file[at] as Number;
             if first < 128 {
-                return Read::Number(first, Cursor { at: at + 1 });
+                return Wide::Whole(first, Cursor { at: at + 1 });
             }
         }
-        groups(file, at, 4)
+        groups(file, at, GROUPS_BEFORE)
     }
 
     // The number at this place if it is one from lo to hi, else the cause.
+    pub fn wide_between(self, file: &[u8], lo: Number, hi: Number, cause: Refusal) -> Wide
+        ensures { λ r. ⌜ gotWide r ≡ grammar.between grammar.limits lo hi (number cause) (now (file .entry)) (self .at) ⌝ }
+    {
+        match self.number(file) {
+            Wide::Unread(earlier) => Wide::Unread(earlier),
+            Wide::Whole(v, next) => {
+                if v < lo {
+                    return Wide::Unread(cause);
+                }
+                if hi < v {
+                    return Wide::Unread(cause);
+                }
+                Wide::Whole(v, next)
+            }
+        }
+    }
+
+    // The same where hi is one of 32 bits: the number is judged at its full width and only then narrowed.
     pub fn between(self, file: &[u8], lo: u32, hi: u32, cause: Refusal) -> Read
         ensures { λ r. ⌜ got r ≡ grammar.between grammar.limits lo hi (number cause) (now (file .entry)) (self .at) ⌝ }
     {
-        match self.number(file) {
-            Read::Refused(earlier) => Read::Refused(earlier),
-            Read::Number(v, next) => {
-                if v < lo {
-                    return Read::Refused(cause);
-                }
-                if hi < v {
-                    return Read::Refused(cause);
-                }
-                Read::Number(v, next)
-            }
+        match self.wide_between(file, lo as Number, hi as Number, cause) {
+            Wide::Unread(r) => Read::Refused(r),
+            Wide::Whole(v, next) => Read::Number(v as u32, next),
         }
     }
 
@@ -150,12 +176,12 @@ impl Cursor {
         ensures { λ r. ⌜ got r ≡ grammar.lessThan grammar.limits bound (number cause) (now (file .entry)) (self .at) ⌝ }
     {
         match self.number(file) {
-            Read::Refused(earlier) => Read::Refused(earlier),
-            Read::Number(v, next) => {
-                if bound <= v {
+            Wide::Unread(earlier) => Read::Refused(earlier),
+            Wide::Whole(v, next) => {
+                if bound as Number <= v {
                     return Read::Refused(cause);
                 }
-                Read::Number(v, next)
+                Read::Number(v as u32, next)
             }
         }
     }

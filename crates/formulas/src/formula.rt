@@ -1,7 +1,9 @@
 // A node of the formula.
 use cursor::Cursor;
+use cursor::Number;
 use cursor::Read;
 use cursor::Refusal;
+use cursor::Wide;
 use instrument::Node;
 ghost use mathlib.Core.Path.{_≡_};
 ghost use Prim.Native.Nat.{_≤_};
@@ -23,13 +25,14 @@ fn named(file: &[u8], from: Cursor, w: u32, driven: u32) -> Read
     ensures { λ r. ⌜ got r ≡ named limits w driven (now (file .entry)) (from .at) ⌝ }
 {
     match from.number(file) {
-        Read::Refused(r) => Read::Refused(r),
-        Read::Number(v, next) => {
-            if w <= v {
+        Wide::Unread(r) => Read::Refused(r),
+        Wide::Whole(v, next) => {
+            if w as Number <= v {
                 return Read::Refused(Refusal::Undriven);
             }
-            if words::member(driven, v) {
-                return Read::Number(v, next);
+            let signal = v as u32;
+            if words::member(driven, signal) {
+                return Read::Number(signal, next);
             }
             Read::Refused(Refusal::Undriven)
         }
@@ -74,7 +77,7 @@ fn binary(file: &[u8], from: Cursor, kind: u32, k: u32) -> NodeRead
 }
 
 // Node k of this kind, with its operands.
-fn operands(file: &[u8], from: Cursor, w: u32, driven: u32, k: u32, kind: u32) -> NodeRead
+fn operands(file: &[u8], from: Cursor, w: u32, driven: u32, k: u32, kind: Number) -> NodeRead
     requires { ⌜ w ≤ limits .signals ⌝ }
     ensures { λ r. ⌜ gotNode r ≡ mapped nodeOf (operands limits w driven k kind (now (file .entry)) (from .at)) ⌝ }
 {
@@ -93,7 +96,7 @@ fn operands(file: &[u8], from: Cursor, w: u32, driven: u32, k: u32, kind: u32) -
         4 => unary(4, from.less_than(file, k, Refusal::Formula)),
         5 => unary(5, from.less_than(file, k, Refusal::Formula)),
         6 => binary(file, from, 6, k),
-        7..=4294967295 => NodeRead::Unknown(Refusal::Formula),
+        7.. => NodeRead::Unknown(Refusal::Formula),
     }
 }
 
@@ -103,7 +106,7 @@ pub fn node(file: &[u8], from: Cursor, w: u32, driven: u32, k: u32) -> NodeRead
     ensures { λ r. ⌜ gotNode r ≡ mapped nodeOf (node limits w driven k (now (file .entry)) (from .at)) ⌝ }
 {
     match from.number(file) {
-        Read::Refused(r) => NodeRead::Unknown(r),
-        Read::Number(kind, next) => operands(file, next, w, driven, k, kind),
+        Wide::Unread(r) => NodeRead::Unknown(r),
+        Wide::Whole(kind, next) => operands(file, next, w, driven, k, kind),
     }
 }

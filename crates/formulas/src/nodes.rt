@@ -35,7 +35,7 @@ fn no_nodes(r: Refusal) -> NodeList
             kind: 0,
             left: 0,
             right: 0,
-        }; 24],
+        }; Instrument::MAX_NODES],
     }
 }
 
@@ -49,7 +49,7 @@ fn all_nodes(file: &[u8], from: Cursor, count: u32, w: u32, driven: u32) -> Node
         kind: 0,
         left: 0,
         right: 0,
-    }; 24];
+    }; Instrument::MAX_NODES];
     let mut place = from;
     let mut k: u32 = 0;
     while k < count {
@@ -84,9 +84,12 @@ pub fn nodes(file: &[u8], so_far: Outcome, from: Cursor, w: u32, driven: u32) ->
 {
     match so_far {
         Outcome::Refused(r) => no_nodes(r),
-        Outcome::Accepted => match from.between(file, 1, 24, Refusal::Range) {
-            Read::Refused(r) => no_nodes(r),
-            Read::Number(count, first) => all_nodes(file, first, count, w, driven),
-        },
+        Outcome::Accepted => {
+            let most = Instrument::MAX_NODES as u32;
+            match from.between(file, 1, most, Refusal::Range) {
+                Read::Refused(r) => no_nodes(r),
+                Read::Number(count, first) => all_nodes(file, first, count, w, driven),
+            }
+        }
     }
 }

@@ -31,7 +31,7 @@ fn no_starts(r: Refusal) -> StartList
         outcome: Outcome::Refused(r),
         at: 0,
         count: 0,
-        starts: [0u32; 256],
+        starts: [0u32; Instrument::ALL_STARTS],
     }
 }
 
@@ -47,11 +47,18 @@ fn all_starts(
     ensures { λ r. ⌜ gotStarts r ≡ mapped startArray (repeat (startBy sizes n) count (now (file .entry)) (from .at)) ⌝ }
     ensures { λ r. ⌜ r .count ≡ count ⌝ }
 {
-    let mut list = [0u32; 256];
+    let mut list = [0u32; Instrument::ALL_STARTS];
     let mut place = from;
     let mut j: u32 = 0;
     while j < count {
-        match lists::start(file, place, n, sizes, &mut list, 4 * (j as usize)) {
+        match lists::start(
+            file,
+            place,
+            n,
+            sizes,
+            &mut list,
+            Instrument::MAX_COMPONENTS * (j as usize),
+        ) {
             Moved::Stopped(r) => {
                 return StartList {
                     outcome: Outcome::Refused(r),
@@ -87,9 +94,12 @@ pub fn starts(
 {
     match so_far {
         Outcome::Refused(r) => no_starts(r),
-        Outcome::Accepted => match from.between(file, 0, 64, Refusal::Range) {
-            Read::Refused(r) => no_starts(r),
-            Read::Number(count, first) => all_starts(file, first, count, n as usize, sizes),
-        },
+        Outcome::Accepted => {
+            let most = Instrument::MAX_STARTS as u32;
+            match from.between(file, 0, most, Refusal::Range) {
+                Read::Refused(r) => no_starts(r),
+                Read::Number(count, first) => all_starts(file, first, count, n as usize, sizes),
+            }
+        }
     }
 }

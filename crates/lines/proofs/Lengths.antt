@@ -8,24 +8,27 @@ use Prim.Native.Nat.{ℕ, zero, suc, _+_, _*_, _/_, _%_, _≤_}
 use Rattle.meaning.specs.Reference.Answers.{joinBelow}
 use Rattle.meaning.proofs.Basic.Entries.{join-length}
 use Rattle.answers.specs.Outcomes.{Reply, given, denied, Judgement}
-use Rattle.answers.specs.Listing.{decimal, space, lineEnd, componentLabel, stageWord, verdictWord}
-use Rattle.answers.specs.Lines.{wordAt, nodeLabel, passLabel, failLabel, markLine, markLineAt, markLines}
+use Rattle.answers.specs.Listing.{decimal, space, lineEnd, stageWord, verdictWord}
+use Rattle.answers.specs.Lines.{wordAt, nodeLabel, passLabel, failLabel, markLine, markLineAt, markLines, wordsLine, hexadecimalLine}
 use Rattle.answers.specs.Lines.{hexadecimalByte, truthWord, lookupLine, judgementLine}
-use Rattle.text.proofs.Texts.{decimal-length}
-use Rattle.listing_lines.proofs.Lengths.{join-short, name-short, verdict-short, stage-short, refusal-line-short}
+use Rattle.text.proofs.Texts.{decimal-most}
+use Rattle.listing_lines.proofs.Lengths.{join-short, verdict-short, stage-short, refusal-line-short}
 
-pub word-short : (i w : ℕ) → length (wordAt i w) ≤ 11
-word-short zero w = omega (arith, decimal-length w)
-word-short (suc i) w = name-short w
+-- a space and the digits
+word-short : (i w : ℕ) → length (wordAt i w) ≤ 21
+word-short zero w = omega (arith, decimal-most w)
+word-short (suc i) w = omega (arith, decimal-most w)
 
-abbrev words : List ℕ → List ℕ
-words ws = joinBelow (length ws) (λ i. wordAt i (getD ws i 0))
+-- 21 bytes a word, and the line end
+pub words-short : (ws : List ℕ) → length (wordsLine ws) ≤ 21 * length ws + 1
+words-short ws =
+    omega (
+      arith,
+      length-append (joinBelow (length ws) (λ i. wordAt i (getD ws i 0))) lineEnd,
+      join-short 21 (length ws) (λ i. wordAt i (getD ws i 0)) (λ i l. word-short i (getD ws i 0)),
+    )
 
--- 11 bytes a word, and the line end
-pub words-short : (ws : List ℕ) → length (words ws) ≤ 11 * length ws
-words-short ws = join-short 11 (length ws) (λ i. wordAt i (getD ws i 0)) (λ i l. word-short i (getD ws i 0))
-
-pub mark-short : (c k pass fail : ℕ) → length (markLine c k pass fail) ≤ 69
+mark-short : (c k pass fail : ℕ) → length (markLine c k pass fail) ≤ 109
 mark-short c k pass fail =
     omega (
       arith,
@@ -33,37 +36,34 @@ mark-short c k pass fail =
       length-append (decimal k) (passLabel ++ (decimal pass ++ (failLabel ++ (decimal fail ++ lineEnd)))),
       length-append (decimal pass) (failLabel ++ (decimal fail ++ lineEnd)),
       length-append (decimal fail) lineEnd,
-      decimal-length c,
-      decimal-length k,
-      decimal-length pass,
-      decimal-length fail,
+      decimal-most c,
+      decimal-most k,
+      decimal-most pass,
+      decimal-most fail,
     )
 
-pub mark-label-short : (c k : ℕ) → length (componentLabel ++ (decimal c ++ (nodeLabel ++ decimal k))) ≤ 36
-mark-label-short c k = omega (arith, length-append (decimal c) (nodeLabel ++ decimal k), decimal-length c, decimal-length k)
-
--- 4 components of 24 nodes: 96 lines
-pub marks-short : (nodes : ℕ) (ws : List ℕ) → length ws ≤ 192 → length (markLines nodes ws) ≤ 6624
-marks-short nodes ws h =
-    omega (
-      arith,
-      join-short 69 (length ws / 2) (markLineAt nodes ws) (λ j l. mark-short (j / nodes) (j % nodes) (getD ws (2 * j) 0) (getD ws (2 * j + 1) 0)),
-    )
+pub marks-short : (nodes : ℕ) (ws : List ℕ) → length (markLines nodes ws) ≤ 109 * (length ws / 2)
+marks-short nodes ws =
+    join-short 109 (length ws / 2) (markLineAt nodes ws) (λ j l. mark-short (j / nodes) (j % nodes) (getD ws (2 * j) 0) (getD ws (2 * j + 1) 0))
 
 -- 2 bytes a byte, and the line end
-pub digits-length : (bytes : List ℕ) → length (joinBelow (length bytes) (λ i. hexadecimalByte (getD bytes i 0))) ≡ 2 * length bytes
+digits-length : (bytes : List ℕ) → length (joinBelow (length bytes) (λ i. hexadecimalByte (getD bytes i 0))) ≡ 2 * length bytes
 digits-length bytes = join-length 2 (length bytes) (λ i. hexadecimalByte (getD bytes i 0)) (λ i l. refl)
+
+pub hexadecimal-length : (bytes : List ℕ) → length (hexadecimalLine bytes) ≡ 2 * length bytes + 1
+hexadecimal-length bytes =
+    omega (arith, length-append (joinBelow (length bytes) (λ i. hexadecimalByte (getD bytes i 0))) lineEnd, digits-length bytes)
 
 -- a line alone
 truth-short : (b : Bool) → length (truthWord b) ≤ 5
 truth-short true = omega arith
 truth-short false = omega arith
 
-pub lookup-line-short : (r : Reply Bool) → length (lookupLine r) ≤ 19
+pub lookup-line-short : (r : Reply Bool) → length (lookupLine r) ≤ 29
 lookup-line-short (given b) = omega (arith, length-append (truthWord b) lineEnd, truth-short b)
 lookup-line-short (denied r) = refusal-line-short r
 
-pub judgement-line-short : (r : Reply Judgement) → length (judgementLine r) ≤ 19
+pub judgement-line-short : (r : Reply Judgement) → length (judgementLine r) ≤ 29
 judgement-line-short (given j) =
     omega (
       arith,

@@ -5,8 +5,8 @@ use borrow.Author.Tests.{lt-ltb, le-ltb}
 use mathlib.Core.Bool.{cond}
 use native.Mathlib.Omega.{arith}
 use Prim.Native.Nat.{ℕ, zero, suc, _+_, _≤_, _<_}
-use Rattle.answers.specs.Listing.{decimal, space, componentLabel}
-use Rattle.answers.specs.Lines.{wordAt, nodeLabel, hexadecimalDigit}
+use Rattle.answers.specs.Listing.{decimal, space, componentLabel, lineEnd}
+use Rattle.answers.specs.Lines.{wordAt, nodeLabel, passLabel, failLabel, markLine, hexadecimalDigit}
 use Rattle.text.specs.Texts.{Put}
 use Rattle.text.proofs.Texts.{put-more, put-same}
 
@@ -25,6 +25,12 @@ pub after-label : {old mid new : List ℕ} {at i r : ℕ} (c k : ℕ) {l : List 
     → Put (componentLabel ++ (decimal c ++ (nodeLabel ++ (decimal k ++ l)))) at r old new
 after-label c k {l} p q =
     put-same (ap (λ m. componentLabel ++ m) (append-assoc (decimal c) (nodeLabel ++ decimal k) l)) (put-more p q)
+
+-- a line of marks is its label, PASS, FAIL and the line end
+pub mark-parts : (c k pass fail : ℕ) → markLine c k pass fail
+    ≡ (componentLabel ++ (decimal c ++ (nodeLabel ++ decimal k))) ++ ((passLabel ++ decimal pass) ++ ((failLabel ++ decimal fail) ++ lineEnd))
+mark-parts c k pass fail =
+    sym (ap (λ m. componentLabel ++ m) (append-assoc (decimal c) (nodeLabel ++ decimal k) _))
 
 -- digits below and from ten on
 pub digit-low : (d : ℕ) → d < 10 → 48 + d ≡ hexadecimalDigit d

@@ -7,19 +7,20 @@ ghost use Prim.Native.Nat.{_+_, _*_, _≤_, _<_};
 ghost use lib.ListN.{length};
 ghost use Rattle.answers.specs.Outcomes.{given};
 ghost use Rattle.answers.specs.Lines.{wordsLine, markLines, hexadecimalLine, lookupLine, judgementLine};
-ghost use Rattle.text.specs.Texts.{textOf};
+ghost use Rattle.text.specs.Texts.{Room, textOf};
 ghost use Rattle.listing_lines.specs.Lines.{judgementFrom};
 ghost use Rattle.lines.specs.Made.{Made};
 use listing_lines::judgement_line;
 use pieces::byte_text;
 use pieces::mark_text;
 use pieces::word_text;
+use state_words::StateSet;
 use text::Text;
 use text::byte;
 
 // Words in decimal with one space between.
 pub fn words_line(words: &[u32], out: &mut [u8]) -> usize
-    requires { ⌜ 11 * length (now words) + 1 ≤ length (now out) ⌝ }
+    requires { ⌜ Room (wordsLine (now words)) 0 (now out) ⌝ }
     ensures { λ r. ⌜ Made (wordsLine (now (words .entry))) r (now (out .entry)) (now (out .exit)) ⌝ }
 {
     let mut at: usize = 0;
@@ -32,8 +33,8 @@ pub fn words_line(words: &[u32], out: &mut [u8]) -> usize
 }
 
 // A line for every two words, PASS and FAIL of a component and a node, where each component has so many nodes.
-pub fn mark_lines(nodes: usize, marks: &[u32], out: &mut [u8]) -> usize
-    requires { ⌜ (0 < nodes) × (length (now marks) ≤ 192) × (6624 ≤ length (now out)) ⌝ }
+pub fn mark_lines(nodes: usize, marks: &[StateSet], out: &mut [u8]) -> usize
+    requires { ⌜ (0 < nodes) × Room (markLines nodes (now marks)) 0 (now out) ⌝ }
     ensures { λ r. ⌜ Made (markLines nodes (now (marks .entry))) r (now (out .entry)) (now (out .exit)) ⌝ }
 {
     let n = marks.len() / 2;
@@ -55,7 +56,7 @@ pub fn mark_lines(nodes: usize, marks: &[u32], out: &mut [u8]) -> usize
 
 // Each byte as two hexadecimal digits.
 pub fn hexadecimal_line(bytes: &[u8], out: &mut [u8]) -> usize
-    requires { ⌜ 2 * length (now bytes) + 1 ≤ length (now out) ⌝ }
+    requires { ⌜ Room (hexadecimalLine (now bytes)) 0 (now out) ⌝ }
     ensures { λ r. ⌜ Made (hexadecimalLine (now (bytes .entry))) r (now (out .entry)) (now (out .exit)) ⌝ }
 {
     let mut at: usize = 0;

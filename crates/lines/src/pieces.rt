@@ -5,26 +5,27 @@ ghost use Prim.Native.Nat.{_+_, _≤_, _<_};
 ghost use lib.ListN.{length};
 ghost use Rattle.answers.specs.Listing.{decimal, componentLabel};
 ghost use Rattle.answers.specs.Lines.{wordAt, nodeLabel, markLine, hexadecimalDigit, hexadecimalByte};
-ghost use Rattle.text.specs.Texts.{Put};
+ghost use Rattle.text.specs.Texts.{Put, Room};
+use state_words::StateSet;
 use text::byte;
 use text::decimal;
 use text::word;
 
 // Word i of a line.
 pub(crate) fn word_text(i: usize, w: u32, out: &mut [u8], at: usize) -> usize
-    requires { ⌜ at + 11 ≤ length (now out) ⌝ }
+    requires { ⌜ Room (wordAt i w) at (now out) ⌝ }
     ensures { λ r. ⌜ Put (wordAt i w) at r (now (out .entry)) (now (out .exit)) ⌝ }
 {
     if i == 0 {
-        return decimal(w, out, at);
+        return decimal(w as u64, out, at);
     }
     let spaced = byte(b' ', out, at);
-    decimal(w, out, spaced)
+    decimal(w as u64, out, spaced)
 }
 
 // A number after its label.
-fn labelled(label: &[u8], v: u32, out: &mut [u8], at: usize) -> usize
-    requires { ⌜ at + length (now label) + 10 ≤ length (now out) ⌝ }
+fn labelled(label: &[u8], v: u64, out: &mut [u8], at: usize) -> usize
+    requires { ⌜ Room (now label ++ decimal v) at (now out) ⌝ }
     ensures { λ r. ⌜ Put (now (label .entry) ++ decimal v) at r (now (out .entry)) (now (out .exit)) ⌝ }
 {
     let next = word(label, out, at);
@@ -32,8 +33,8 @@ fn labelled(label: &[u8], v: u32, out: &mut [u8], at: usize) -> usize
 }
 
 // "component 0 node 1".
-fn mark_label(c: u32, k: u32, out: &mut [u8], at: usize) -> usize
-    requires { ⌜ at + 36 ≤ length (now out) ⌝ }
+fn mark_label(c: u64, k: u64, out: &mut [u8], at: usize) -> usize
+    requires { ⌜ Room (componentLabel ++ (decimal c ++ (nodeLabel ++ decimal k))) at (now out) ⌝ }
     ensures { λ r. ⌜ Put (componentLabel ++ (decimal c ++ (nodeLabel ++ decimal k))) at r (now (out .entry)) (now (out .exit)) ⌝ }
 {
     let component = labelled(b"component ", c, out, at);
@@ -44,15 +45,15 @@ fn mark_label(c: u32, k: u32, out: &mut [u8], at: usize) -> usize
 pub(crate) fn mark_text(
     c: usize,
     k: usize,
-    pass: u32,
-    fail: u32,
+    pass: StateSet,
+    fail: StateSet,
     out: &mut [u8],
     at: usize,
 ) -> usize
-    requires { ⌜ (c < 96) × (k < 96) × (at + 69 ≤ length (now out)) ⌝ }
+    requires { ⌜ Room (markLine c k pass fail) at (now out) ⌝ }
     ensures { λ r. ⌜ Put (markLine c k pass fail) at r (now (out .entry)) (now (out .exit)) ⌝ }
 {
-    let label = mark_label(c as u32, k as u32, out, at);
+    let label = mark_label(c as u64, k as u64, out, at);
     let passed = labelled(b" PASS ", pass, out, label);
     let failed = labelled(b" FAIL ", fail, out, passed);
     byte(b'\n', out, failed)

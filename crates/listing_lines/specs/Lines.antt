@@ -1,7 +1,7 @@
 -- What the lines of the listing are made from (document 01, Verdict and listing).
 use mathlib.Core.Bool.{Bool, true, false}
 use mathlib.Core.List.{List, [], _++_}
-use lib.ListN.{getD}
+use lib.ListN.{getD, length}
 use Prim.Native.Nat.{ℕ}
 use Rattle.meaning.specs.Verdict.{Verdict, Stage, holds, fails, marks, merged}
 use Rattle.meaning.specs.Reference.Answers.{joinBelow}
@@ -23,6 +23,13 @@ judgementFrom h m = record { verdict = verdictFrom h; stage = stageFrom m }
 -- the names of so many states, each after a space
 abbrev pub spacedNames : ℕ → (ℕ → ℕ) → List ℕ
 spacedNames states names = joinBelow states (λ x. space ++ decimal (names x))
+
+-- the same of a list of names, and the class line of component c
+abbrev pub namesText : List ℕ → List ℕ
+namesText names = spacedNames (length names) (λ x. getD names x 0)
+
+abbrev pub namedLine : ℕ → List ℕ → List ℕ
+namedLine c names = classLine c (length names) (λ x. getD names x 0)
 
 -- the class lines of n components, from their state counts and their rows of names
 abbrev pub classLines : ℕ → List ℕ → List (List ℕ) → List ℕ

@@ -3,12 +3,14 @@
 ghost use mathlib.Core.List.{_++_};
 ghost use Prim.Native.Nat.{ℕ, _+_, _≤_, _<_};
 ghost use lib.ListN.{length, getD};
+ghost use Rattle.meaning.specs.File.Grammar.{limits, mostStates};
 ghost use Rattle.answers.specs.Listing.{decimal, space, lineEnd, verdictWord, stageWord};
 ghost use Rattle.answers.specs.Listing.{verdictLine, classLine, sizeLine, refusalLine};
 ghost use Rattle.answers.specs.Outcomes.{given};
 ghost use Rattle.answers.specs.Lines.{judgementLine};
-ghost use Rattle.text.specs.Texts.{Put};
-ghost use Rattle.listing_lines.specs.Lines.{verdictFrom, stageFrom, judgementFrom, spacedNames, classLines};
+ghost use Rattle.text.specs.Texts.{Put, Room};
+ghost use Rattle.listing_lines.specs.Lines.{verdictFrom, stageFrom, judgementFrom, namesText, namedLine, classLines};
+use instrument::Instrument;
 use text::byte;
 use text::decimal;
 use text::word;
@@ -65,17 +67,17 @@ pub fn verdict_line(holds: bool, by_marks: bool, out: &mut [u8], at: usize) -> u
 
 // A class name after a space.
 fn spaced_name(name: u8, out: &mut [u8], at: usize) -> usize
-    requires { ⌜ at + 11 ≤ length (now out) ⌝ }
+    requires { ⌜ Room (space ++ decimal name) at (now out) ⌝ }
     ensures { λ r. ⌜ Put (space ++ decimal name) at r (now (out .entry)) (now (out .exit)) ⌝ }
 {
     let spaced = byte(b' ', out, at);
-    decimal(name as u32, out, spaced)
+    decimal(name as u64, out, spaced)
 }
 
 // The class names of a component's states.
 fn spaced_names(names: &[u8], out: &mut [u8], at: usize) -> usize
-    requires { ⌜ (length (now names) ≤ 32) × (at + 352 ≤ length (now out)) ⌝ }
-    ensures { λ r. ⌜ Put (spacedNames (length (now (names .entry))) (λ x. getD (now (names .entry)) x 0)) at r (now (out .entry)) (now (out .exit)) ⌝ }
+    requires { ⌜ Room (namesText (now names)) at (now out) ⌝ }
+    ensures { λ r. ⌜ Put (namesText (now (names .entry))) at r (now (out .entry)) (now (out .exit)) ⌝ }
 {
     let mut next = at;
     let mut x: usize = 0;
@@ -88,18 +90,18 @@ fn spaced_names(names: &[u8], out: &mut [u8], at: usize) -> usize
 
 // A number between two words.
 fn numbered(label: &[u8], v: u32, end: &[u8], out: &mut [u8], at: usize) -> usize
-    requires { ⌜ at + length (now label) + 10 + length (now end) ≤ length (now out) ⌝ }
+    requires { ⌜ Room (now label ++ (decimal v ++ now end)) at (now out) ⌝ }
     ensures { λ r. ⌜ Put (now (label .entry) ++ (decimal v ++ now (end .entry))) at r (now (out .entry)) (now (out .exit)) ⌝ }
 {
     let labelled = word(label, out, at);
-    let written = decimal(v, out, labelled);
+    let written = decimal(v as u64, out, labelled);
     word(end, out, written)
 }
 
 // "component 0 classes 0 0 2".
 pub fn class_line(c: u32, names: &[u8], out: &mut [u8], at: usize) -> usize
-    requires { ⌜ (length (now names) ≤ 32) × (at + 381 ≤ length (now out)) ⌝ }
-    ensures { λ r. ⌜ Put (classLine c (length (now (names .entry))) (λ x. getD (now (names .entry)) x 0)) at r (now (out .entry)) (now (out .exit)) ⌝ }
+    requires { ⌜ Room (namedLine c (now names)) at (now out) ⌝ }
+    ensures { λ r. ⌜ Put (namedLine c (now (names .entry))) at r (now (out .entry)) (now (out .exit)) ⌝ }
 {
     let label = numbered(b"component ", c, b" classes", out, at);
     let named = spaced_names(names, out, label);
@@ -107,8 +109,14 @@ pub fn class_line(c: u32, names: &[u8], out: &mut [u8], at: usize) -> usize
 }
 
 // The line of component c with so many states and these names.
-fn component_line(c: usize, states: u32, names: [u8; 32], out: &mut [u8], at: usize) -> usize
-    requires { ⌜ (c < 4) × (states ≤ 32) × (at + 381 ≤ length (now out)) ⌝ }
+fn component_line(
+    c: usize,
+    states: u32,
+    names: [u8; Instrument::MAX_STATES],
+    out: &mut [u8],
+    at: usize,
+) -> usize
+    requires { ⌜ (c < limits .components) × (states ≤ mostStates) × (Room (classLine c states (λ x. getD names x 0)) at (now out)) ⌝ }
     ensures { λ r. ⌜ Put (classLine c states (λ x. getD names x 0)) at r (now (out .entry)) (now (out .exit)) ⌝ }
 {
     let n = states as usize;
@@ -118,12 +126,13 @@ fn component_line(c: usize, states: u32, names: [u8; 32], out: &mut [u8], at: us
 // The class lines of so many components, from their state counts and their rows of names.
 pub fn class_lines(
     components: usize,
-    states: [u32; 4],
-    names: [[u8; 32]; 4],
+    states: [u32; Instrument::MAX_COMPONENTS],
+    names: [[u8; Instrument::MAX_STATES]; Instrument::MAX_COMPONENTS],
     out: &mut [u8],
     at: usize,
 ) -> usize
-    requires { ⌜ (components ≤ 4) × ((i : ℕ) → i < components → getD states i 0 ≤ 32) × (at + 1524 ≤ length (now out)) ⌝ }
+    requires { ⌜ (components ≤ limits .components) × ((i : ℕ) → i < components → getD states i 0 ≤ mostStates) ⌝ }
+    requires { ⌜ Room (classLines components states names) at (now out) ⌝ }
     ensures { λ r. ⌜ Put (classLines components states names) at r (now (out .entry)) (now (out .exit)) ⌝ }
 {
     let mut next = at;
@@ -137,17 +146,17 @@ pub fn class_lines(
 
 // "merged 2 of 3".
 pub fn size_line(merged: u32, full: u32, out: &mut [u8], at: usize) -> usize
-    requires { ⌜ at + 32 ≤ length (now out) ⌝ }
+    requires { ⌜ Room (sizeLine merged full) at (now out) ⌝ }
     ensures { λ r. ⌜ Put (sizeLine merged full) at r (now (out .entry)) (now (out .exit)) ⌝ }
 {
     let label = numbered(b"merged ", merged, b" of ", out, at);
-    let sized = decimal(full, out, label);
+    let sized = decimal(full as u64, out, label);
     byte(b'\n', out, sized)
 }
 
 // "refused 1".
 pub fn refusal_line(number: u32, out: &mut [u8], at: usize) -> usize
-    requires { ⌜ at + 19 ≤ length (now out) ⌝ }
+    requires { ⌜ Room (refusalLine number) at (now out) ⌝ }
     ensures { λ r. ⌜ Put (refusalLine number) at r (now (out .entry)) (now (out .exit)) ⌝ }
 {
     numbered(b"refused ", number, b"\n", out, at)

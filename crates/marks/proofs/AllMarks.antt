@@ -19,7 +19,7 @@ use Rattle.instrument.proofs.Places.{nodecount-is}
 use Rattle.instrument.proofs.Bounds.{count-bounds}
 use Rattle.instrument.proofs.Rows.{sets-in, filled-at}
 use Rattle.instrument.proofs.Tables.{table-count}
-use Rattle.marks.specs.declared.Mark.{Mark}
+use Rattle.mark_rules.specs.declared.Mark.{Mark}
 use Rattle.marks.specs.Formulas.{formulaMark}
 use Rattle.marks.specs.NodeMarks.{noMark, listMarks, marksOf, MarkingAll, rowWords, pairAt}
 use Rattle.marks.proofs.NodeMarks.{pairs-length}

@@ -14,9 +14,9 @@ use Rattle.meaning.proofs.Meaning.TableSteps.{must-decides, can-decides}
 use Rattle.meaning.proofs.Meaning.TablePaths.{keeps-decides, reach-decides}
 use Rattle.meaning.proofs.Marks.Sets.{largest-decides, least-decides}
 use Rattle.marks.specs.Formulas.{formulaMark}
-use Rattle.marks.specs.Rules.{InRange, trueMark, orMark, exMark, egMark, euMark, exPass, exFail, egPass, egFail, euPass, euFail}
-use Rattle.marks.proofs.Rules.{mark-is}
-use Rattle.marks.proofs.Tests.{same-word, built-decides}
+use Rattle.mark_rules.specs.Rules.{InRange, trueMark, orMark, exMark, egMark, euMark, exPass, exFail, egPass, egFail, euPass, euFail}
+use Rattle.mark_rules.proofs.Rules.{mark-is}
+use Rattle.mark_rules.proofs.Tests.{same-word, built-decides}
 
 module _ {A : Type 0} (t : Table) (κ : View A) where
   abbrev N : ℕ

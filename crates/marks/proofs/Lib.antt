@@ -1,10 +1,4 @@
--- Tests as words; rows of successor words as steps; the loops of EG and EU
-pub mod Tests
-pub mod Component
-pub mod FixedPoints
--- the rules as the code makes them
-pub mod Rules
--- for a whole formula on a component's table
+-- the rules for a whole formula on a component's table
 pub mod Formulas
 pub mod Signals
 pub mod Tables

@@ -20,10 +20,10 @@ use Rattle.meaning.proofs.Meaning.Full.{length-upTo}
 use Rattle.instrument.specs.declared.Node as stored
 use Rattle.instrument.specs.Layout.{nodeOf}
 use Rattle.instrument.proofs.Nodes.{left-operand, operand-by}
-use Rattle.marks.specs.declared.Mark.{Mark}
+use Rattle.mark_rules.specs.declared.Mark.{Mark}
 use Rattle.marks.specs.Formulas.{formulaMark}
 use Rattle.marks.specs.NodeMarks.{noMark, signalMark, kindMark, ruleMark, Operands, Listing, MarkedNodes, Marking, listMarks, pairAt, rowWords}
-use Rattle.marks.specs.Rules.{InRange}
+use Rattle.mark_rules.specs.Rules.{InRange}
 use Rattle.marks.specs.Written.{Written}
 use Rattle.marks.proofs.Formulas.{formula-range, formula-true, formula-or, formula-ex, formula-eg, formula-eu}
 use Rattle.marks.proofs.Tables.{ex-steps, eg-steps, eu-steps}

@@ -6,7 +6,7 @@ use native.Mathlib.Nat.{mul-comm}
 use native.Mathlib.Omega.{arith}
 use Prim.Native.Nat.{ℕ, _+_, _-_, _*_, _%_, _^_, _≤_, _<_}
 use Rattle.meaning.specs.Instrument.{table}
-use Rattle.meaning.specs.File.Grammar.{Contents, instrumentOf, limits}
+use Rattle.meaning.specs.File.Grammar.{Contents, instrumentOf, limits, mostStates, mostNexts}
 use Rattle.meaning.specs.File.Promise.{PromisedComponent, componentAt}
 use Rattle.meaning.specs.Table.{fromWords}
 use Rattle.meaning.proofs.File.Accepted.{table-is, promised-at, word-at}
@@ -63,20 +63,20 @@ module _ (t : Instrument) (k : Contents) (d : Describes t k) where
         outputs-are : take outputs (drop (8 * i) (t .outputs)) ≡ componentAt k i .outputs
         outputs-are = outputs-part t k d i outputs (omega (arith, components-is t k d)) (p ∙ outputcounts-at t k d i)
 
-        outs-are : take outs (drop (32 * i) (t .outs)) ≡ componentAt k i .outs
+        outs-are : take outs (drop (mostStates * i) (t .outs)) ≡ componentAt k i .outs
         outs-are = outs-part t k d i outs (omega (arith, components-is t k d)) (q ∙ states-at t k d i ∙ sym (promised .outCount))
 
-        nexts-are : take nexts (drop (512 * i) (t .nexts)) ≡ componentAt k i .nexts
+        nexts-are : take nexts (drop (mostNexts * i) (t .nexts)) ≡ componentAt k i .nexts
         nexts-are =
             nexts-part t k d i nexts (omega (arith, components-is t k d))
             (r ∙ (rw (states-at t k d i, inputcounts-at t k d i) (sym (promised .nextCount))))
 
         parts-lists : Lists (getD (t .states) i 0) (getD (t .inputcounts) i 0) (take outputs (drop (8 * i) (t .outputs)))
-            (take outs (drop (32 * i) (t .outs))) (take nexts (drop (512 * i) (t .nexts)))
+            (take outs (drop (mostStates * i) (t .outs))) (take nexts (drop (mostNexts * i) (t .nexts)))
         parts-lists = rw (outputs-are, outs-are, nexts-are) lists-promised
 
         parts-table : fromWords (getD (t .states) i 0) (componentAt k i .inputs) (take outputs (drop (8 * i) (t .outputs)))
-            (take outs (drop (32 * i) (t .outs))) (take nexts (drop (512 * i) (t .nexts)))
+            (take outs (drop (mostStates * i) (t .outs))) (take nexts (drop (mostNexts * i) (t .nexts)))
             ≡ table (instrumentOf k) i
         parts-table = rw (outputs-are, outs-are, nexts-are, states-at t k d i) (sym (table-is k i))
 
@@ -120,15 +120,15 @@ all-listing {t} {k} d l = rw (l .nodes-are, l .count-is) (listing t k d)
 -- component c's parts of the arrays that are lent, as the code cuts them out
 pub record Parts (c : ℕ) (nexts outs outputs : List ℕ) (states inputs many : ℕ) : Type 0 where
   pub few : c < 4
-  pub most-states : states ≤ 32
+  pub most-states : states ≤ mostStates
   pub most-inputs : inputs ≤ 4
   pub most-outputs : many ≤ 8
-  pub words : states * (1 * 2 ^ inputs % 2 ^ 64) ≤ 512
-  pub nexts-end : 512 * c + states * (1 * 2 ^ inputs % 2 ^ 64) ≤ length nexts
-  pub outs-end : 32 * c + states ≤ length outs
+  pub words : states * (1 * 2 ^ inputs % 2 ^ 64) ≤ mostNexts
+  pub nexts-end : mostNexts * c + states * (1 * 2 ^ inputs % 2 ^ 64) ≤ length nexts
+  pub outs-end : mostStates * c + states ≤ length outs
   pub outputs-end : 8 * c + many ≤ length outputs
-  pub lists : Lists states inputs (take (8 * c + many - 8 * c) (drop (8 * c) outputs)) (take (32 * c + states - 32 * c) (drop (32 * c) outs))
-      (take (512 * c + states * (1 * 2 ^ inputs % 2 ^ 64) - 512 * c) (drop (512 * c) nexts))
+  pub lists : Lists states inputs (take (8 * c + many - 8 * c) (drop (8 * c) outputs)) (take (mostStates * c + states - mostStates * c) (drop (mostStates * c) outs))
+      (take (mostNexts * c + states * (1 * 2 ^ inputs % 2 ^ 64) - mostNexts * c) (drop (mostNexts * c) nexts))
 
 module _
     {t : Instrument}
@@ -163,8 +163,8 @@ module _
     lent-inputs = sym (l .inputs-are ∙ inputcounts-at t k d c)
 
     pub lent-table : fromWords states (componentAt k c .inputs) (take (8 * c + many - 8 * c) (drop (8 * c) outputs))
-        (take (32 * c + states - 32 * c) (drop (32 * c) outs))
-        (take (512 * c + states * (1 * 2 ^ inputs % 2 ^ 64) - 512 * c) (drop (512 * c) nexts))
+        (take (mostStates * c + states - mostStates * c) (drop (mostStates * c) outs))
+        (take (mostNexts * c + states * (1 * 2 ^ inputs % 2 ^ 64) - mostNexts * c) (drop (mostNexts * c) nexts))
         ≡ table (instrumentOf k) c
     lent-table =
         rw (l .nexts-are, l .outs-are, l .outputs-are, l .states-are, l .inputs-are, l .outputs-many)

@@ -21,8 +21,8 @@ use Rattle.marks.specs.Component.{Ascending}
 use Rattle.marks.specs.Formulas.{formulaMark}
 use Rattle.marks.specs.NodeMarks.{signalMark}
 use Rattle.marks.specs.Written.{Unlisted}
-use Rattle.marks.specs.Rules.{foreignMark, ownMark, ownPass, ownFail}
-use Rattle.marks.proofs.Rules.{mark-is}
+use Rattle.mark_rules.specs.Rules.{foreignMark, ownMark, ownPass, ownFail}
+use Rattle.mark_rules.proofs.Rules.{mark-is}
 
 pub formula-foreign : (t : Table) (compared : ℕ → ℕ) (w : ℕ) → owns t w ≡ false → foreignMark ≡ formulaMark t (signals compared t) (atom w)
 formula-foreign t compared w e = mark-is _ _ _ (sym (nothing (λ x. drives t x w))) (sym (nothing (λ x. not (drives t x w))))

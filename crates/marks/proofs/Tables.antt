@@ -10,10 +10,10 @@ use Rattle.meaning.specs.Tests.{anyBelow}
 use Rattle.meaning.specs.Reference.Tests.{allBelow, shrink, grow}
 use Rattle.meaning.specs.Reference.Marks.{mustB, canB}
 use Rattle.meaning.proofs.Meaning.Full.{length-upTo}
-use Rattle.marks.specs.declared.Mark.{Mark}
+use Rattle.mark_rules.specs.declared.Mark.{Mark}
 use Rattle.meaning.specs.StepWords.{stepTable}
-use Rattle.marks.specs.Rules.{exMark, egMark, euMark, exPass, exFail, egPass, egFail, euPass, euFail}
-use Rattle.marks.proofs.Rules.{mark-is}
+use Rattle.mark_rules.specs.Rules.{exMark, egMark, euMark, exPass, exFail, egPass, egFail, euPass, euFail}
+use Rattle.mark_rules.proofs.Rules.{mark-is}
 
 module _ (n : ℕ) (inputs outputs outs succ : List ℕ) where
   abbrev words : Table

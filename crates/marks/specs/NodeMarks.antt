@@ -18,11 +18,11 @@ use Rattle.instrument.specs.declared.Node.{Node}
 use Rattle.instrument.specs.declared.Instrument.{Instrument}
 use Rattle.instrument.specs.Layout.{nodeOf}
 use Rattle.instrument.specs.Described.{Describes}
-use Rattle.marks.specs.declared.Mark.{Mark}
+use Rattle.mark_rules.specs.declared.Mark.{Mark}
 use Rattle.meaning.specs.StepWords.{stepTable}
 use Rattle.marks.specs.Formulas.{formulaMark}
 use Rattle.marks.specs.Written.{Written}
-use Rattle.marks.specs.Rules.{trueMark, notMark, orMark, exMark, egMark, euMark}
+use Rattle.mark_rules.specs.Rules.{trueMark, notMark, orMark, exMark, egMark, euMark}
 
 -- no state is marked
 abbrev pub noMark : Mark

@@ -302,13 +302,13 @@ abbrev readsB : Got Contents → Fact → Bool
 readsB (fault r) f = refusedB r f
 readsB (found c e) f = acceptedB (instrumentOf c) && factB (instrumentOf c) f
 
-reads-means : (g : Got Contents) (f : Fact) → T (readsB g f) → Reads g f
+pub reads-means : (g : Got Contents) (f : Fact) → T (readsB g f) → Reads g f
 reads-means (fault r) f h = refused-means r f h
 reads-means (found c e) f h =
     let a = accepted-sound (instrumentOf c) (search conj) in
     (a, means (instrumentOf c) a f (search conj))
 
-abbrev caseB : Case → Bool
+abbrev pub caseB : Case → Bool
 caseB r = readsB (readFile (r .file)) (r .fact)
 
 -- all the starred cases

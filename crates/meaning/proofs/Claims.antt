@@ -43,6 +43,8 @@ pub use Rattle.meaning.proofs.Meaning.Index.{index-lt, part-lt, part-in
 pub use Rattle.meaning.proofs.Verdict.{right-unique}
 -- the starred bench cases
 pub use Rattle.meaning.proofs.Cases.{starred}
+-- 12/14: oversized, malformed and unended numbers at every field, components of 64 states
+pub use Rattle.meaning.proofs.WideCases.{wide}
 -- what the guard and the promise of no dead end are for
 pub use Rattle.meaning.proofs.Counterexamples.{unguarded, guarded, dead-end}
 

@@ -7,6 +7,8 @@ pub mod Merged
 pub mod Verdict
 pub mod Demands
 pub mod Cases
+pub mod WideCases
 pub mod Counterexamples
 pub mod Claims
+pub mod AnyWidth
 pub mod Inhabited

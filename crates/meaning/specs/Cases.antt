@@ -156,12 +156,6 @@ cases =
     ∷ row chainSpare (mergedWords (4 ∷ []))
     ∷ row lamps (classes 0 (0 ∷ 0 ∷ []))
     ∷ row (pair (0 ∷ 0 ∷ [])) (refused 10)
-    -- a fifth byte above 15, with no byte after it and with one; a fifth byte of 15 is good, and the number is then out of range
-    ∷ row (128 ∷ 128 ∷ 128 ∷ 128 ∷ 16 ∷ []) (refused 2)
-    ∷ row (255 ∷ 255 ∷ 255 ∷ 255 ∷ 16 ∷ 0 ∷ []) (refused 2)
-    ∷ row (255 ∷ 255 ∷ 255 ∷ 255 ∷ 15 ∷ []) (refused 3)
-    -- 33 states
-    ∷ row (1 ∷ 0 ∷ 33 ∷ []) (refused 3)
     -- a signal not ascending, twice the same, not below W; one that is an own input too counts as not ascending first
     ∷ row (1 ∷ 2 ∷ 1 ∷ 0 ∷ 2 ∷ 1 ∷ 0 ∷ []) (refused 4)
     ∷ row (1 ∷ 2 ∷ 1 ∷ 0 ∷ 2 ∷ 1 ∷ 1 ∷ []) (refused 4)

@@ -23,5 +23,7 @@ pub mod Verdict
 pub mod Cases
 -- The same as functions that compute; what they compute is proved to be the above.
 pub mod Reference
+-- Cases of document 02
+pub mod WideCases
 -- The steps of one component as the engines are lent them
 pub mod StepWords

@@ -18,7 +18,7 @@ use Rattle.meaning.proofs.Basic.Bounded.{Agree, any-same, all-same}
 use Rattle.meaning.proofs.File.Tables.{reading-lt, reading-same}
 use Rattle.meaning.proofs.Meaning.Index.{part-lt}
 use Rattle.labels.specs.Combined.{barredAt}
-use Rattle.truth.specs.Nodes.{nodeB, nodesB, truthOf, combinedB}
+use Rattle.node_truth.specs.Nodes.{nodeB, nodesB, truthOf, combinedB}
 use Rattle.merging.proofs.Tables.{Agreeing}
 
 -- rounds of operators that agree on sets that agree

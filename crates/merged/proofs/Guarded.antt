@@ -24,8 +24,8 @@ use Rattle.meaning.specs.Reference.Merged.{guardB, mergedB}
 use Rattle.meaning.proofs.Basic.Bounded.{any-same}
 use Rattle.meaning.proofs.Meaning.Index.{part-lt}
 use Rattle.labels.specs.Combined.{barredAt}
-use Rattle.truth.specs.Nodes.{combinedB, combinedWord}
-use Rattle.truth.proofs.Nodes.{combined-guarded}
+use Rattle.node_truth.specs.Nodes.{combinedB, combinedWord}
+use Rattle.node_truth.proofs.Nodes.{combined-guarded}
 use Rattle.merging.proofs.Tables.{Agreeing}
 use Rattle.merged.specs.Bars.{failClasses}
 use Rattle.merged.proofs.Agreeing.{combined-same}

@@ -1,7 +1,11 @@
 // Lists of the file, stored in a lent array from an index on.
 use cursor::Cursor;
+use cursor::Number;
 use cursor::Read;
 use cursor::Refusal;
+use cursor::Wide;
+use instrument::Instrument;
+use state_words::StateSet;
 ghost use mathlib.Core.Path.{_≡_};
 ghost use Prim.Native.Nat.{_+_, _≤_};
 ghost use lib.ListN.{length};
@@ -23,18 +27,19 @@ fn signal(file: &[u8], from: Cursor, w: u32, taken: u32, low: u32) -> Read
     ensures { λ r. ⌜ got r ≡ signal limits w taken low (now (file .entry)) (from .at) ⌝ }
 {
     match from.number(file) {
-        Read::Refused(r) => Read::Refused(r),
-        Read::Number(v, next) => {
-            if v < low {
+        Wide::Unread(r) => Read::Refused(r),
+        Wide::Whole(v, next) => {
+            if v < low as Number {
                 return Read::Refused(Refusal::Order);
             }
-            if w <= v {
+            if w as Number <= v {
                 return Read::Refused(Refusal::Order);
             }
-            if words::member(taken, v) {
+            let listed = v as u32;
+            if words::member(taken, listed) {
                 return Read::Refused(Refusal::Driven);
             }
-            Read::Number(v, next)
+            Read::Number(listed, next)
         }
     }
 }
@@ -106,12 +111,43 @@ pub fn words_between(
     Moved::To(place)
 }
 
+// So many sets of states from lo to hi.
+pub fn sets_between(
+    file: &[u8],
+    from: Cursor,
+    count: usize,
+    lo: StateSet,
+    hi: StateSet,
+    out: &mut [StateSet],
+    base: usize,
+) -> Moved
+    requires { ⌜ base + count ≤ length (now out) ⌝ }
+    ensures { λ r. ⌜ moved r ≡ mapped (λ vs. done) (repeat (between limits lo hi 6) count (now (file .entry)) (from .at)) ⌝ }
+    ensures { λ _. ⌜ Stored (repeat (between limits lo hi 6) count (now (file .entry)) (from .at)) (λ vs. vs) base (now (out .entry)) (now (out .exit)) ⌝ }
+{
+    let mut place = from;
+    let mut i: usize = 0;
+    while i < count {
+        match place.wide_between(file, lo, hi, Refusal::Bits) {
+            Wide::Unread(r) => {
+                return Moved::Stopped(r);
+            }
+            Wide::Whole(set, next) => {
+                out[base + i] = set;
+                place = next;
+            }
+        }
+        i += 1;
+    }
+    Moved::To(place)
+}
+
 // One state of each of n components of these sizes.
 pub fn start(
     file: &[u8],
     from: Cursor,
     n: usize,
-    sizes: [u32; 4],
+    sizes: [u32; Instrument::MAX_COMPONENTS],
     out: &mut [u32],
     base: usize,
 ) -> Moved

@@ -5,7 +5,7 @@ use lib.ListN.{length, getD, replicate, length-append, length-replicate}
 use native.Mathlib.Omega.{arith}
 use Prim.Native.Nat.{ℕ, zero, suc, _+_, _≤_, _<_}
 use Rattle.meaning.specs.Instrument.{Instrument, components, table}
-use Rattle.meaning.specs.File.Grammar.{Contents, instrumentOf}
+use Rattle.meaning.specs.File.Grammar.{Contents, instrumentOf, mostStates}
 use Rattle.meaning.specs.Reference.Answers.{listBelow, joinBelow, classesAt, classNames}
 use Rattle.meaning.proofs.Basic.Entries.{list-length}
 use Rattle.instrument.specs.declared.Instrument as stored
@@ -22,12 +22,12 @@ unfolding classesOf
 row-at I few i l =
     front-at (componentClasses I) [] (replicate 4 noNames) (components I) (omega (arith, length-replicate 4 noNames)) i l
 
-state-at : (I : Instrument) (i : ℕ) → table I i .states ≤ 32 → (x : ℕ) → x < table I i .states
+state-at : (I : Instrument) (i : ℕ) → table I i .states ≤ mostStates → (x : ℕ) → x < table I i .states
     → getD (componentClasses I i) x 0 ≡ classesAt I i x
 unfolding tableClasses
-state-at I i m x l = padded-at 32 (table I i .states) (classesAt I i) x l m
+state-at I i m x l = padded-at mostStates (table I i .states) (classesAt I i) x l m
 
-pub name-at : (I : Instrument) → components I ≤ 4 → (i : ℕ) → i < components I → table I i .states ≤ 32 → (x : ℕ) → x < table I i .states
+pub name-at : (I : Instrument) → components I ≤ 4 → (i : ℕ) → i < components I → table I i .states ≤ mostStates → (x : ℕ) → x < table I i .states
     → getD (getD (classesOf I) i []) x 0 ≡ classesAt I i x
 name-at I few i l m x h = ap (λ row. getD row x 0) (row-at I few i l) ∙ state-at I i m x h
 
@@ -53,7 +53,7 @@ module _ (t : stored.Instrument) (k : Contents) (d : Describes t k) where
   pub few-components : components I ≤ 4
   few-components = omega (arith, table-count t k d, count-bounds t k d .1)
 
-  pub few-states : (i : ℕ) → i < components I → table I i .states ≤ 32
+  pub few-states : (i : ℕ) → i < components I → table I i .states ≤ mostStates
   few-states i l = rw (table-states t k d i) (states-bounds t k d i (omega (arith, table-count t k d)) .1)
 
   pub described-name : (i x : ℕ) → i < components I → x < table I i .states → getD (getD (classesOf I) i []) x 0 ≡ classesAt I i x

@@ -10,7 +10,7 @@ use Rattle.meaning.specs.View.{View, wholeWords}
 use Rattle.meaning.specs.Nodes.{Node, formulaAt}
 use Rattle.meaning.specs.Instrument as meaning
 use Rattle.meaning.specs.Instrument.{Accepted, components, table}
-use Rattle.meaning.specs.File.Grammar.{Contents, instrumentOf, limits}
+use Rattle.meaning.specs.File.Grammar.{Contents, instrumentOf, limits, mostStates}
 use Rattle.meaning.specs.Reference.Relation.{relB}
 use Rattle.meaning.specs.Reference.Tests.{lowest}
 use Rattle.meaning.proofs.Basic.Bounded.{any-same}
@@ -21,10 +21,10 @@ use Rattle.instrument.specs.Described.{Describes}
 use Rattle.instrument.specs.Lent.{Lent}
 use Rattle.instrument.proofs.Tables.{table-count, table-states}
 use Rattle.classes.specs.Rows.{rel, rows}
-use Rattle.classes.specs.Names.{Inhabited, classNames}
+use Rattle.class_names.specs.Names.{Inhabited, classNames}
 use Rattle.classes.proofs.Padded.{padded-same}
 use Rattle.classes.proofs.Rows.{rel-rows}
-use Rattle.classes.proofs.Meaning.{inhabited}
+use Rattle.class_names.proofs.Meaning.{inhabited}
 use Rattle.relations.specs.Relations.{formulaRelation, rootRelation}
 use Rattle.relations.proofs.Meaning.{related-equivalence, relation-decides}
 use Rattle.partitions.specs.Classes.{tableClasses, componentClasses}
@@ -37,11 +37,11 @@ lowest-same (suc n) f g h =
     ap₂ (λ b z. cond b z n) (any-same n f g (λ i l. h i (omega arith))) (lowest-same n f g (λ i l. h i (omega arith)))
 
 -- the names of the rows at the root
-pub root-names : (t : Table) (κ : View ℕ) (ns : List (Node ℕ)) → t .states ≤ 32
+pub root-names : (t : Table) (κ : View ℕ) (ns : List (Node ℕ)) → t .states ≤ mostStates
     → classNames (formulaRelation t κ (formulaAt ns (length ns - 1))) (t .states) ≡ tableClasses t κ ns
 unfolding classNames tableClasses
 root-names t κ ns m =
-    padded-same 32 (t .states) (λ x. lowest (t .states) (rel (rows (t .states) related) x)) (λ x. lowest (t .states) (related x)) m (λ x l.
+    padded-same mostStates (t .states) (λ x. lowest (t .states) (rel (rows (t .states) related) x)) (λ x. lowest (t .states) (related x)) m (λ x l.
     lowest-same (t .states) (rel (rows (t .states) related) x) (related x) (λ y k. rel-rows (t .states) related x y m l k))
   where
     related : ℕ → ℕ → Bool
@@ -64,7 +64,7 @@ module _
     here : c < components I
     here = omega (arith, l .here, table-count t k d)
 
-    small : table I c .states ≤ 32
+    small : table I c .states ≤ mostStates
     small = few-states t k d c here
 
     states-is : states ≡ table I c .states

@@ -12,7 +12,7 @@ use Rattle.meaning.specs.Reference.Answers.{listBelow}
 use Rattle.instrument.specs.declared.Instrument.{Instrument}
 use Rattle.instrument.proofs.Bounds.{count-bounds}
 use Rattle.instrument.proofs.Tables.{table-count}
-use Rattle.marks.specs.declared.Mark.{Mark}
+use Rattle.mark_rules.specs.declared.Mark.{Mark}
 use Rattle.marks.specs.NodeMarks.{noMark, listMarks, marksOf}
 use Rattle.marks.proofs.Written.{written-start, written-end, join-list, singles-more}
 use Rattle.relations.specs.Relations.{MarkedComponent}

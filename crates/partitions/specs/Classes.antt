@@ -9,19 +9,19 @@ use Rattle.meaning.specs.View.{View, wholeWords}
 use Rattle.meaning.specs.Nodes.{Node, formulaAt}
 use Rattle.meaning.specs.Instrument as meaning
 use Rattle.meaning.specs.Instrument.{components, table}
-use Rattle.meaning.specs.File.Grammar.{Contents, instrumentOf, limits}
+use Rattle.meaning.specs.File.Grammar.{Contents, instrumentOf, limits, mostStates}
 use Rattle.meaning.specs.Reference.Relation.{rootClass}
 use Rattle.meaning.specs.Reference.Answers.{listBelow}
 use Rattle.instrument.specs.declared.Instrument.{Instrument}
 use Rattle.instrument.specs.Described.{Describes}
-use Rattle.marks.specs.declared.Mark.{Mark}
+use Rattle.mark_rules.specs.declared.Mark.{Mark}
 use Rattle.marks.specs.NodeMarks.{marksOf}
 use Rattle.classes.specs.Rows.{padded}
 
--- "Classes are taken at the root": 32 names, that of state x at x, and 0 past the states. They depend on the component's own table, what is
+-- "Classes are taken at the root": the name of state x at x, and 0 past the states. They depend on the component's own table, what is
 -- compared of its outputs and the nodes, and on nothing else.
 unfoldable pub tableClasses : Table → View ℕ → List (Node ℕ) → List ℕ
-tableClasses t κ ns = padded (limits .states) (t .states) (rootClass t κ (formulaAt ns (length ns - 1)))
+tableClasses t κ ns = padded mostStates (t .states) (rootClass t κ (formulaAt ns (length ns - 1)))
 
 -- of component c, where whole output words are compared
 abbrev pub componentClasses : meaning.Instrument → ℕ → List ℕ
@@ -29,7 +29,7 @@ componentClasses I c = tableClasses (table I c) (wholeWords (table I c)) (I .nod
 
 -- of no component
 abbrev pub noNames : List ℕ
-noNames = replicate (limits .states) 0
+noNames = replicate mostStates 0
 
 -- of all components, 0 past the last one
 unfoldable pub classesOf : meaning.Instrument → List (List ℕ)

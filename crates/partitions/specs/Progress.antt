@@ -3,10 +3,11 @@ use mathlib.Core.Path.{_≡_}
 use mathlib.Core.List.{List, [], _∷_}
 use lib.ListN.{length, getD, replicate}
 use Prim.Native.Nat.{ℕ, _*_, _≤_}
-use Rattle.meaning.specs.File.Grammar.{Contents, instrumentOf, limits}
+use Rattle.meaning.specs.File.Grammar.{Contents, instrumentOf, limits, mostStates}
 use Rattle.meaning.specs.Reference.Answers.{listBelow, joinBelow}
 use Rattle.instrument.specs.declared.Instrument.{Instrument}
-use Rattle.marks.specs.declared.Mark.{Mark}
+use Rattle.instrument.specs.declared.Outline.{Outline}
+use Rattle.mark_rules.specs.declared.Mark.{Mark}
 use Rattle.marks.specs.Written.{Written}
 use Rattle.partitions.specs.Classes.{componentClasses, noNames, MarkedInstrument, sumBelow}
 
@@ -26,7 +27,7 @@ pub record Writing (n : ℕ) (states : List ℕ) (names : List (List ℕ)) (out�
   pub next : place ≡ length (joinBelow i (λ i. namesIn (getD names i []) (getD states i 0)))
 
 -- the states of the first i components are summed
-pub record Summing (t : Instrument) (i sum : ℕ) : Type 0 where
+pub record Summing (t : Outline) (i sum : ℕ) : Type 0 where
   pub reached : i ≤ t .components
-  pub few : sum ≤ 32 * i
+  pub few : sum ≤ mostStates * i
   pub sums : sum ≡ sumBelow i (λ i. getD (t .states) i 0)

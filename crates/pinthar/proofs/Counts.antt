@@ -10,7 +10,7 @@ use Prim.Native.Nat.{ℕ, _/_, _%_, _^_, _≤_}
 use Rattle.meaning.specs.Instrument.{Instrument, components, table}
 use Rattle.meaning.specs.File.Parser.{Got, found, fault}
 use Rattle.meaning.specs.File.Number.{choose}
-use Rattle.meaning.specs.File.Grammar.{Contents, instrumentOf, readFile, limits}
+use Rattle.meaning.specs.File.Grammar.{Contents, instrumentOf, readFile, limits, allOuts, mostStates}
 use Rattle.meaning.specs.File.Promise.{Promised}
 use Rattle.meaning.specs.Reference.Answers.{Outcome, refused, entries, outcomeNumber, fitting, listBelow, joinBelow}
 use Rattle.meaning.specs.Reference.Answers.{fullCount, fullWord, passWord, failWord, markWords, classesAt, classNames, mergedSize, mergedWord}
@@ -60,9 +60,9 @@ marks-short k p =
     rowOf : ℕ → List ℕ
     rowOf i = joinBelow (length (I .nodes)) (pairOf i)
 
-names-short : (k : Contents) → Promised limits k → length (classNames (instrumentOf k)) ≤ 128
+names-short : (k : Contents) → Promised limits k → length (classNames (instrumentOf k)) ≤ allOuts
 names-short k p =
-    omega (arith, join-short 32 (components I) rowOf (λ i l. omega (arith, list-length (table I i .states) (classesAt I i), few-states k p i l)), few-components k p)
+    omega (arith, join-short mostStates (components I) rowOf (λ i l. omega (arith, list-length (table I i .states) (classesAt I i), few-states k p i l)), few-components k p)
   where
     I : Instrument
     I = instrumentOf k
@@ -71,7 +71,7 @@ names-short k p =
     rowOf i = listBelow (table I i .states) (classesAt I i)
 
 listed-count : (k : Contents) → Promised limits k → (room : ℕ) (r : Reply Judgement) → outcomeCount (listed (instrumentOf k) room r) ≤ 2048
-listed-count k p room (given j) = fitting-count room 2048 (listingText (instrumentOf k) j) (listing-length k p j)
+listed-count k p room (given j) = fitting-count room 2048 (listingText (instrumentOf k) j) (omega (arith, listing-length k p j))
 listed-count k p room (denied n) = omega arith
 
 module _ (file : List ℕ) (room : ℕ) where
@@ -83,9 +83,9 @@ module _ (file : List ℕ) (room : ℕ) where
   unfolding markOutcome
   mark-count = after-count file 192 _ (λ k p. fitting-count room 192 (markWords (instrumentOf k)) (marks-short k p))
 
-  pub class-count : outcomeCount (classOutcome file room) ≤ 128
+  pub class-count : outcomeCount (classOutcome file room) ≤ allOuts
   unfolding classOutcome
-  class-count = after-count file 128 _ (λ k p. fitting-count room 128 (classNames (instrumentOf k)) (names-short k p))
+  class-count = after-count file allOuts _ (λ k p. fitting-count room allOuts (classNames (instrumentOf k)) (names-short k p))
 
   pub merged-count : outcomeCount (mergedOutcome file room) ≤ 4096
   unfolding mergedOutcome

@@ -1,6 +1,7 @@
 // Questions whose answers are entries in a lent buffer. The result tells how many entries were written, or has the refusal's number in its
 // upper 32 bits; then the buffer is as it was.
 use crate::numbers;
+use state_words::StateSet;
 ghost use Prim.Native.Nat.{_^_, _<_};
 ghost use lib.ListN.{length};
 ghost use Rattle.answers.specs.Outcomes.{classOutcome, fullOutcome, markOutcome, mergedOutcome};
@@ -19,7 +20,7 @@ pub extern "C" fn pinthar_full_words(file: &[u8], out: &mut [u32]) -> u64
 
 // Marks: two words for every component and node, PASS then FAIL, components outermost.
 #[no_mangle]
-pub extern "C" fn pinthar_mark_words(file: &[u8], out: &mut [u32]) -> u64
+pub extern "C" fn pinthar_mark_words(file: &[u8], out: &mut [StateSet]) -> u64
     ensures answer { λ r. ⌜ Returned (markOutcome (now (file .entry)) (length (now (out .entry)))) r (now (out .entry)) (now (out .exit)) ⌝ }
     ensures meaning { λ r. ⌜ (r < 2 ^ 32 → Holds (MarksMean (now (out .exit))) (now (file .entry))) ⌝ }
 {

@@ -1,5 +1,4 @@
--- What the reader's answers say in document 01's words: the number of the outcome, the instrument of what was found, and what is promised of
--- it.
+-- What the reader's answers say in document 01's words: the number of the outcome, and what is promised of the instrument of what was found.
 use mathlib.Core.Path.{_≡_}
 use mathlib.Core.List.{List}
 use Prim.Native.Nat.{ℕ}
@@ -7,7 +6,6 @@ use Rattle.meaning.specs.File.Parser.{Got, found, fault}
 use Rattle.meaning.specs.File.Grammar.{Contents, readFile}
 use Rattle.cursor.specs.Answers.{number}
 use Rattle.instrument.specs.declared.Instrument.{Instrument}
-use Rattle.instrument.specs.Layout.{layout, nothing}
 use Rattle.instrument.specs.Described.{Describes}
 use Rattle.parsing.specs.declared.Outcome.{Outcome}
 use Rattle.parsing.specs.declared.Outcome.the-variants.{Accepted, Refused}
@@ -20,11 +18,6 @@ outcomeNumber (Refused r) = number r
 abbrev pub faultNumber : {A : Type 0} → Got A → ℕ
 faultNumber (found a at) = 0
 faultNumber (fault r) = r
-
--- the instrument of the contents, the empty one where the file is refused
-abbrev pub layoutOf : Got Contents → Instrument
-layoutOf (found k at) = layout k
-layoutOf (fault r) = layout nothing
 
 -- an outcome tells whether something was found: accepted where it was, refused by the number of the fault where it was not
 abbrev pub Tells : {A : Type 0} → Outcome → Got A → Type 0

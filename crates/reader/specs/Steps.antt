@@ -1,8 +1,10 @@
 -- What the functions that read a whole file promise each other.
-use mathlib.Core.List.{List}
+use mathlib.Core.List.{List, []}
 use Prim.Native.Nat.{ℕ}
 use Rattle.instrument.specs.declared.Instrument.{Instrument}
+use Rattle.instrument.specs.declared.Outline.{Outline}
 use Rattle.instrument.specs.Layout.{layout, nothing}
+use Rattle.instrument.specs.Outline.{outlineOf}
 use Rattle.parsing.specs.declared.Outcome.{Outcome}
 use Rattle.parsing.specs.declared.step.Step.{Step}
 use Rattle.parsing.specs.Steps.{stepAt, Goes}
@@ -15,6 +17,10 @@ use Rattle.reader.specs.Stages.{readEnd}
 abbrev pub held : FileRead → List ℕ → List ℕ → Instrument
 held w outs nexts =
     changed (assembled (layout nothing) (w .shapes) outs nexts) (w .formula .count) (w .formula .nodes) (w .starts .count) (w .starts .starts)
+
+-- the same but for its successor sets
+abbrev pub heldOutline : FileRead → List ℕ → Outline
+heldOutline w outs = outlineOf (held w outs [])
 
 abbrev pub wholeStep : FileRead → List ℕ → List ℕ → Step
 wholeStep w outs nexts = stepAt (w .outcome) (w .starts .at) (held w outs nexts)

@@ -24,6 +24,7 @@ use Rattle.meaning.proofs.Classes.Rules.{match-in, match-out, matched-at, rule-
 use Rattle.classes.specs.Rows.{rel, rows}
 use Rattle.classes.specs.Related.{relatedAll, relatedFixed}
 use Rattle.classes.specs.Matching.{conversed, rules, ruled}
+use Rattle.meaning.specs.File.Grammar.{mostStates}
 use Rattle.refinement.specs.Again.{knownB, fineB, Fine, Cut, Side, Working}
 use Rattle.classes.proofs.Padded.{padded-is, padded-past}
 use Rattle.classes.proofs.Rows.{length-rows, row-at, rel-rows}
@@ -34,15 +35,15 @@ test-pairs : {n : ℕ} (b : ℕ → ℕ → Bool) → DecidesPairs n b (λ x y. 
 test-pairs b = record { sound = λ x y l k h. h; whole = λ x y l k h. h }
 
 -- rows have bits of the states alone
-rows-cut : (n : ℕ) (b : ℕ → ℕ → Bool) → n ≤ 32 → Cut n (rows n b)
+rows-cut : (n : ℕ) (b : ℕ → ℕ → Bool) → n ≤ mostStates → Cut n (rows n b)
 unfolding rows
-rows-cut n b m = record { long = length-rows n b; narrow = narrow; past = padded-past 32 n (λ x. built n (b x)) }
+rows-cut n b m = record { long = length-rows n b; narrow = narrow; past = padded-past mostStates n (λ x. built n (b x)) }
   where
     narrow : (x : ℕ) → getD (rows n b) x 0 < 2 ^ n
     narrow x =
         elim (decLt x n) [
           | yes l ↦ rw (row-at n b x m l) (built-lt n (b x))
-          | no l ↦ rw (padded-past 32 n (λ x. built n (b x)) x (omega arith)) (pow-pos n)
+          | no l ↦ rw (padded-past mostStates n (λ x. built n (b x)) x (omega arith)) (pow-pos n)
         ]
 
 module _ (states inputs : ℕ) (succ compared operands : List ℕ) (pass fail : ℕ) where
@@ -107,7 +108,7 @@ module _ (states inputs : ℕ) (succ compared operands : List ℕ) (pass fail : 
           or-r (knownB pass fail x y) (matchedB t (λ z. 0) (has fail) (λ u v. most u v) y x)
           (match-in t (λ z. 0) (test-decides (has fail)) (λ u v. most u v) y x (h .forth))
 
-  module _ (m : states ≤ 32) where
+  module _ (m : states ≤ mostStates) where
     -- ---- start
     first-at : (x y : ℕ) → x < states → y < states → rel first x y ≡ firstB x y
     unfolding ruled relatedAll
@@ -225,7 +226,7 @@ module _ (states inputs : ℕ) (succ compared operands : List ℕ) (pass fail : 
       working-end : r ≡ relatedFixed states inputs succ compared operands pass fail
       unfolding relatedFixed rows
       working-end =
-          padded-is 32 states (λ x. built states (most x)) r m (w .one .cut .long)
+          padded-is mostStates states (λ x. built states (most x)) r m (w .one .cut .long)
           (λ x l.
           sym (built-has states (getD r x 0) (w .one .cut .narrow x))
           ∙ built-same states (rel r x) (most x) (λ y k.

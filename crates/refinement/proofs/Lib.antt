@@ -1,5 +1,5 @@
--- Words changed at some places; pairs that fail; what is left falls
-pub mod Changed
+-- Sets united; pairs that fail; what is left falls
+pub mod United
 pub mod Failing
 pub mod Sum
 -- A look at a row keeps the work: by what it does, by the words that it stores; looks one after the other

@@ -13,21 +13,23 @@ use Rattle.words.proofs.Passing.{lowest-some}
 use Rattle.words.proofs.Built.{built-lt, difference-iff, has-built, less-falls}
 use Rattle.meaning.proofs.Basic.Booleans.{and-l}
 use Rattle.classes.specs.Rows.{rel}
+use Rattle.meaning.specs.File.Grammar.{mostStates}
+use Rattle.state_words.specs.Width.{stateBits}
 use Rattle.refinement.specs.Again.{predecessorRows, fineB, total, Arrays, Deleted, Looked, Settling, Settled}
 use Rattle.refinement.proofs.Sum.{sum-le, sum-falls}
 use Rattle.refinement.proofs.RowDelete.{cut-less, there, removed-less, working-none, working-deleted}
 
 -- the lowest of the later rows
-pub later-row : (todo mask : ℕ) {w : ℕ} → todo < 2 ^ 32 → w ≡ intersection todo mask → w ≢ 0 → T (has todo (lowest 32 w))
+pub later-row : (todo mask : ℕ) {w : ℕ} → todo < 2 ^ stateBits → w ≡ intersection todo mask → w ≢ 0 → T (has todo (lowest stateBits w))
 later-row todo mask {w} l e n =
-    let z = lowest 32 w in
+    let z = lowest stateBits w in
     and-l (has todo z) (has mask z)
-    (subst T (ap (λ w. has w z) e ∙ has-intersection todo mask z) (lowest-some 32 w (rw e (intersection-lt 32 todo mask l)) n .member))
+    (subst T (ap (λ w. has w z) e ∙ has-intersection todo mask z) (lowest-some stateBits w (rw e (intersection-lt stateBits todo mask l)) n .member))
 
-module _ {states inputs : ℕ} {succ : List ℕ} {pass fail : ℕ} (m : states ≤ 32) {pre : List ℕ} (ep : pre ≡ predecessorRows states inputs succ)
+module _ {states inputs : ℕ} {succ : List ℕ} {pass fail : ℕ} (m : states ≤ mostStates) {pre : List ℕ} (ep : pre ≡ predecessorRows states inputs succ)
     {r s d e : List ℕ} {todo other : ℕ} (a : Arrays r s d e) {x : ℕ} (l : x < states) (i : T (has todo x)) {failed : ℕ}
     (ef : failed ≡ built states (λ y. (rel r x y && has (getD d x 0) y) && not (fineB states inputs succ pass fail (rel r) x y))) where
-  pub looked-none : failed ≡ 0 → {left : ℕ} → left ≡ without 32 todo x
+  pub looked-none : failed ≡ 0 → {left : ℕ} → left ≡ without stateBits todo x
       → Looked states inputs succ pass fail r s d e r s (set d x 0) e todo other left other
   unfolding without
   looked-none z e =
@@ -35,10 +37,10 @@ module _ {states inputs : ℕ} {succ : List ℕ} {pass fail : ℕ} (m : states �
       (record {
         long = record { rows = a .rows; other = a .other; again = length-set d x 0 ∙ a .again; back = a .back };
         keeps = λ E L w. working-none states inputs succ pass fail m pre ep w x l a failed ef z;
-        less = inr (refl, refl, less-falls 32 todo x i);
+        less = inr (refl, refl, less-falls stateBits todo x i);
       })
 
-  pub looked-deleted : failed ≢ 0 → {left : ℕ} → left ≡ without 32 todo x → {r′ s′ d′ e′ : List ℕ} {todo′ other′ : ℕ}
+  pub looked-deleted : failed ≢ 0 → {left : ℕ} → left ≡ without stateBits todo x → {r′ s′ d′ e′ : List ℕ} {todo′ other′ : ℕ}
       → Deleted states pre x failed r s (set d x 0) e r′ s′ d′ e′ left other todo′ other′
       → Looked states inputs succ pass fail r s d e r′ s′ d′ e′ todo other todo′ other′
   unfolding total
@@ -58,7 +60,7 @@ module _ {states inputs : ℕ} {succ : List ℕ} {pass fail : ℕ} (m : states �
       row : ℕ
       row = intersection (getD r x 0) (complement states failed)
 
-      long : length r′ ≡ 32
+      long : length r′ ≡ mostStates
       long = ap length (h .rows) ∙ (length-set r x _ ∙ a .rows)
 
       smaller : (z : ℕ) → getD r′ z 0 ≤ getD r z 0
@@ -102,26 +104,26 @@ module _ {states inputs : ℕ} {succ : List ℕ} {pass fail : ℕ} {r s d e : Li
 
 -- the measure: what is left, then the rows to look at
 pub looked-falls : {states inputs : ℕ} {succ : List ℕ} {pass fail : ℕ} {r s d e r′ s′ d′ e′ : List ℕ} {here there here′ there′ : ℕ}
-    → Looked states inputs succ pass fail r s d e r′ s′ d′ e′ here there here′ there′ → here′ < 4294967296
-    → total r′ s′ * 4294967296 + here′ < total r s * 4294967296 + here
+    → Looked states inputs succ pass fail r s d e r′ s′ d′ e′ here there here′ there′ → here′ < 2 ^ stateBits
+    → total r′ s′ * 2 ^ stateBits + here′ < total r s * 2 ^ stateBits + here
 looked-falls {r = r} {s = s} {r′ = r′} {s′ = s′} {here = here} {there = there} {here′ = here′} {there′ = there′} h l = on (h .less)
   where
     on : (total r′ s′ < total r s) ⊎ ((total r′ s′ ≡ total r s) × (there′ ≡ there) × (here′ < here))
-        → total r′ s′ * 4294967296 + here′ < total r s * 4294967296 + here
+        → total r′ s′ * 2 ^ stateBits + here′ < total r s * 2 ^ stateBits + here
     on (inl p) = omega arith
     on (inr p) = let q = p .0 in let o = p .2 in omega arith
 
 -- both relations settled in turn: less is left, or no row
 pub turn-falls : {states inputs : ℕ} {succ : List ℕ} {pass fail : ℕ} {r s d e r′ s′ d′ e′ r″ s″ d″ e″ : List ℕ} {here there here′ there′ here″ there″ : ℕ}
     → Settled states inputs succ pass fail r s d e r′ s′ d′ e′ here there here′ there′
-    → Settled states inputs succ pass fail s′ r′ e′ d′ s″ r″ e″ d″ there′ here′ there″ here″ → there′ ≢ 0 → here″ < 4294967296
-    → total r″ s″ * 8589934592 + (here″ + there″) < total r s * 8589934592 + (here + there)
+    → Settled states inputs succ pass fail s′ r′ e′ d′ s″ r″ e″ d″ there′ here′ there″ here″ → there′ ≢ 0 → here″ < 2 ^ stateBits
+    → total r″ s″ * (2 * 2 ^ stateBits) + (here″ + there″) < total r s * (2 * 2 ^ stateBits) + (here + there)
 unfolding total
 turn-falls {r = r} {s = s} {r′ = r′} {s′ = s′} {r″ = r″} {s″ = s″} {here = here} {there = there} {here′ = here′} {there′ = there′} {here″ = here″} {there″ = there″} h k n l =
     on (h .looks .less) (k .looks .less)
   where
     on : (total r′ s′ < total r s) ⊎ ((total r′ s′ ≡ total r s) × (there′ ≡ there)) → (total s″ r″ < total s′ r′) ⊎ ((total s″ r″ ≡ total s′ r′) × (here″ ≡ here′))
-        → total r″ s″ * 8589934592 + (here″ + there″) < total r s * 8589934592 + (here + there)
+        → total r″ s″ * (2 * 2 ^ stateBits) + (here″ + there″) < total r s * (2 * 2 ^ stateBits) + (here + there)
     on (inl p) (inl q) = omega (arith, k .none)
     on (inl p) (inr q) = let a = q .0 in omega (arith, k .none)
     on (inr p) (inl q) = let a = p .0 in omega (arith, k .none)

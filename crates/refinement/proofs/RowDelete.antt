@@ -20,7 +20,10 @@ use Rattle.meaning.proofs.Basic.Bounded.{any-in, any-out}
 use Rattle.meaning.specs.Reference.Truth.{upTo}
 use Rattle.meaning.proofs.Meaning.Full.{length-upTo}
 use Rattle.classes.specs.Rows.{rel, rows}
-use Rattle.refinement.specs.Again.{predecessorRows, fineB, beforeAny, Arrays, Changed, Deleted, Cut, Working}
+use Rattle.meaning.specs.File.Grammar.{mostStates}
+use Rattle.state_words.specs.Width.{stateBits}
+use Rattle.classes.specs.Changed.{Changed}
+use Rattle.refinement.specs.Again.{predecessorRows, fineB, beforeAny, Arrays, Deleted, Cut, Working}
 use Rattle.classes.proofs.Rows.{rel-rows, row-at}
 use Rattle.refinement.proofs.RowLook.{working-looked}
 
@@ -44,13 +47,13 @@ module _ (more : ℕ) {places : ℕ} {old new : List ℕ} (h : Changed (union mo
       on (inr n) = inr (subst (λ v. T (has v w)) (h .other z (T-not (has places z) n)) i)
 
 -- words without x at some places
-module _ (x : ℕ) {places : ℕ} {old new : List ℕ} (h : Changed (λ w. without 32 w x) places old new) where
+module _ (x : ℕ) {places : ℕ} {old new : List ℕ} (h : Changed (λ w. without stateBits w x) places old new) where
   pub removed-less : (z : ℕ) → getD new z 0 ≤ getD old z 0
   unfolding without
   removed-less z = on (dec-T (has places z))
     where
       on : T (has places z) ⊎ T (not (has places z)) → getD new z 0 ≤ getD old z 0
-      on (inl p) = rw (h .at z p) (intersection-le (getD old z 0) (complement 32 (insert 0 x)))
+      on (inl p) = rw (h .at z p) (intersection-le (getD old z 0) (complement stateBits (insert 0 x)))
       on (inr n) = rw (h .other z (T-not (has places z) n)) (omega arith)
 
   removed-cut : {states : ℕ} → Cut states old → Cut states new
@@ -66,19 +69,19 @@ module _ (x : ℕ) {places : ℕ} {old new : List ℕ} (h : Changed (λ w. witho
   removed-out z w i = on (dec-T (has places z))
     where
       on : T (has places z) ⊎ T (not (has places z)) → T (rel old z w) × ((w ≡ x) × T (has places z) → ⊥)
-      on (inl p) = let o = less-out 32 (getD old z 0) x w (subst (λ v. T (has v w)) (h .at z p) i) in (o .1, λ g. o .0 (sym (g .0)))
+      on (inl p) = let o = less-out stateBits (getD old z 0) x w (subst (λ v. T (has v w)) (h .at z p) i) in (o .1, λ g. o .0 (sym (g .0)))
       on (inr n) = (subst (λ v. T (has v w)) (h .other z (T-not (has places z) n)) i, λ g. T-not (has places z) n (g .1))
 
-  removed-in : (z w : ℕ) → w < 32 → T (rel old z w) → ((w ≡ x) × T (has places z) → ⊥) → T (rel new z w)
+  removed-in : (z w : ℕ) → w < stateBits → T (rel old z w) → ((w ≡ x) × T (has places z) → ⊥) → T (rel new z w)
   unfolding without
   removed-in z w l i g = on (dec-T (has places z))
     where
       on : T (has places z) ⊎ T (not (has places z)) → T (rel new z w)
-      on (inl p) = rw (h .at z p) (less-in 32 (getD old z 0) x w l (λ e. g (sym e, p)) i)
+      on (inl p) = rw (h .at z p) (less-in stateBits (getD old z 0) x w l (λ e. g (sym e, p)) i)
       on (inr n) = rw (h .other z (T-not (has places z) n)) i
 
 -- a row without what failed
-module _ (states : ℕ) (r : List ℕ) (x failed : ℕ) (q : length r ≡ 32) (f : x < 32) where
+module _ (states : ℕ) (r : List ℕ) (x failed : ℕ) (q : length r ≡ mostStates) (f : x < mostStates) where
   abbrev row : ℕ
   row = intersection (getD r x 0) (complement states failed)
 
@@ -127,7 +130,7 @@ module _ (states : ℕ) (r : List ℕ) (x failed : ℕ) (q : length r ≡ 32) (f
           | no n ↦ subst (λ v. T (has v w)) (sym (apart z n)) i
         ]
 
-module _ (states inputs : ℕ) (succ : List ℕ) (pass fail : ℕ) (m : states ≤ 32) (pre : List ℕ) (ep : pre ≡ predecessorRows states inputs succ) where
+module _ (states inputs : ℕ) (succ : List ℕ) (pass fail : ℕ) (m : states ≤ mostStates) (pre : List ℕ) (ep : pre ≡ predecessorRows states inputs succ) where
   abbrev goes : ℕ → ℕ → Bool
   goes v z = anyBelow (2 ^ inputs) (λ a. has (successorWord inputs succ z a) v)
 
@@ -205,18 +208,18 @@ module _ (states inputs : ℕ) (succ : List ℕ) (pass fail : ℕ) (m : states �
 
       -- the rows to look at, but for x
       left : ℕ
-      left = without 32 here x
+      left = without stateBits here x
 
       left-in : (z : ℕ) → z < states → z ≢ x → T (has here z) → T (has left z)
       unfolding left without
-      left-in z k n i = less-in 32 here x z (omega arith) (λ e. n (sym e)) i
+      left-in z k n i = less-in stateBits here x z (omega arith) (λ e. n (sym e)) i
 
       left-out : (z : ℕ) → T (has left z) → T (has here z)
       unfolding left without
-      left-out z i = less-out 32 here x z i .1
+      left-out z i = less-out stateBits here x z i .1
 
       -- nothing fails
-      pub working-none : failed ≡ 0 → Working states inputs succ pass fail E L r s (set d x 0) e (without 32 here x) there
+      pub working-none : failed ≡ 0 → Working states inputs succ pass fail E L r s (set d x 0) e (without stateBits here x) there
       unfolding cleared left spread-test
       working-none z =
           working-looked states inputs succ pass fail (rel pre) x failed others prior l w
@@ -247,7 +250,7 @@ module _ (states inputs : ℕ) (succ : List ℕ) (pass fail : ℕ) (m : states �
 
       -- what fails goes
       pub working-deleted : {r′ s′ d′ e′ : List ℕ} {here′ there′ : ℕ}
-          → Deleted states pre x failed r s (set d x 0) e r′ s′ d′ e′ (without 32 here x) there here′ there′
+          → Deleted states pre x failed r s (set d x 0) e r′ s′ d′ e′ (without stateBits here x) there here′ there′
           → Working states inputs succ pass fail E L r′ s′ d′ e′ here′ there′
       unfolding cleared left
       working-deleted {r′} {s′} {d′} {e′} {here′} {there′} h =

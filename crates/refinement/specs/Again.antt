@@ -9,11 +9,13 @@ use lib.Dec.{T}
 use lib.ListN.{length, getD, set}
 use Prim.Native.Nat.{ℕ, _+_, _^_, _≤_, _<_}
 use Rattle.words.specs.Sets.{has, built, complement, intersection, union, without}
-use Rattle.words.specs.Passing.{Passing}
 use Rattle.meaning.specs.Tests.{anyBelow}
 use Rattle.meaning.specs.Reference.Relation.{matchedB}
 use Rattle.meaning.specs.StepWords.{stepTable, successorWord}
 use Rattle.classes.specs.Rows.{rel, rows}
+use Rattle.classes.specs.Changed.{Changed}
+use Rattle.meaning.specs.File.Grammar.{mostStates}
+use Rattle.state_words.specs.Width.{stateBits}
 
 -- the sum of a list
 unfoldable pub sum : List ℕ → ℕ
@@ -37,19 +39,6 @@ knownB pass fail x y = (has pass x && has pass y) || (has fail x && has fail y)
 unfoldable pub knownWith : ℕ → ℕ → ℕ → ℕ
 knownWith pass fail x = union (cond (has pass x) pass 0) (cond (has fail x) fail 0)
 
--- the words at some places changed by g, the others as they were
-pub record Changed (g : ℕ → ℕ) (places : ℕ) (old new : List ℕ) : Type 0 where
-  pub long : length new ≡ length old
-  pub at : (z : ℕ) → T (has places z) → getD new z 0 ≡ g (getD old z 0)
-  pub other : (z : ℕ) → (T (has places z) → ⊥) → getD new z 0 ≡ getD old z 0
-
--- the same on the way: the places in `rest` wait
-pub record Changing (g : ℕ → ℕ) (places rest : ℕ) (old new : List ℕ) : Type 0 where
-  pub passing : Passing places rest (λ z. getD new z 0 ≡ g (getD old z 0))
-  pub long : length new ≡ length old
-  pub waiting : (z : ℕ) → T (has rest z) → getD new z 0 ≡ getD old z 0
-  pub other : (z : ℕ) → (T (has places z) → ⊥) → getD new z 0 ≡ getD old z 0
-
 -- the predecessors of the members of w
 abbrev pub beforeAny : ℕ → List ℕ → ℕ → ℕ
 beforeAny states pre w = built states (λ u. anyBelow states (λ v. has w v && rel pre v u))
@@ -58,7 +47,7 @@ beforeAny states pre w = built states (λ u. anyBelow states (λ v. has w v && r
 -- of x and one of what failed, with their rows.
 pub record Deleted (states : ℕ) (pre : List ℕ) (x failed : ℕ) (r s d e r′ s′ d′ e′ : List ℕ) (here there here′ there′ : ℕ) : Type 0 where
   pub rows : r′ ≡ set r x (intersection (getD r x 0) (complement states failed))
-  pub other : Changed (λ w. without 32 w x) failed s s′
+  pub other : Changed (λ w. without stateBits w x) failed s s′
   pub again : Changed (union (beforeAny states pre failed)) (getD pre x 0) d d′
   pub back : Changed (union (getD pre x 0)) (beforeAny states pre failed) e e′
   pub more : here′ ≡ union (getD pre x 0) here
@@ -66,10 +55,10 @@ pub record Deleted (states : ℕ) (pre : List ℕ) (x failed : ℕ) (r s d e r�
 
 -- four arrays of a word for each state
 pub record Arrays (r s d e : List ℕ) : Type 0 where
-  pub rows : length r ≡ 32
-  pub other : length s ≡ 32
-  pub again : length d ≡ 32
-  pub back : length e ≡ 32
+  pub rows : length r ≡ mostStates
+  pub other : length s ≡ mostStates
+  pub again : length d ≡ mostStates
+  pub back : length e ≡ mostStates
 
 -- how much a relation and its converse have left: it never grows, and falls where a pair goes out
 unfoldable pub total : List ℕ → List ℕ → ℕ
@@ -77,7 +66,7 @@ total r s = sum r + sum s
 
 -- bits of the states alone
 pub record Cut (states : ℕ) (r : List ℕ) : Type 0 where
-  pub long : length r ≡ 32
+  pub long : length r ≡ mostStates
   pub narrow : (x : ℕ) → getD r x 0 < 2 ^ states
   pub past : (x : ℕ) → states ≤ x → getD r x 0 ≡ 0
 

@@ -4,6 +4,7 @@ mod again; // again.rt: predecessors, pairs that are noted, pairs that fail
 mod settle; // settle.rt: rows looked at until none is left
 
 use again::predecessors;
+use classes::relation::Rows;
 use classes::relation::converse;
 use classes::relation::rel_all;
 use classes::rule::ruled;
@@ -14,28 +15,29 @@ ghost use Prim.Native.Nat.{_≤_};
 ghost use lib.ListN.{length};
 ghost use Rattle.meaning.specs.StepWords.{Steps};
 ghost use Rattle.classes.specs.Related.{relatedFixed};
+use state_words::StateSet;
 
 // The relation of EG and EU: the largest inside the operands' that keeps the rule by itself and by FAIL of the node. Rows of the relation and of
 // its converse are looked at in turn until all are settled.
 pub fn rel_fixed(
-    succ: &[u32],
+    succ: &[StateSet],
     states: usize,
     inputs: usize,
     compared: &[u32],
-    operands: [u32; 32],
-    pass: u32,
-    fail: u32,
-) -> [u32; 32]
+    operands: &Rows,
+    pass: StateSet,
+    fail: StateSet,
+) -> Rows
     requires { ⌜ Steps states inputs (now succ) × (states ≤ length (now compared)) ⌝ }
-    ensures { λ s. ⌜ s ≡ relatedFixed states inputs (now (succ .entry)) (now (compared .entry)) operands pass fail ⌝ }
+    ensures { λ s. ⌜ s ≡ relatedFixed states inputs (now (succ .entry)) (now (compared .entry)) (now (operands .entry)) pass fail ⌝ }
 {
     let pre = predecessors(succ, states, inputs);
     let all = rel_all(states);
-    let mut rows = ruled(compared, states, operands, pass, fail, all, all);
-    let mut other = converse(rows, states);
+    let mut rows = ruled(compared, states, operands, pass, fail, &all, &all);
+    let mut other = converse(&rows, states);
     let mut again = rows;
     let mut back = other;
-    let every = words::below(states as u32);
+    let every = state_words::below(states);
     let mut todo = Todo {
         here: every,
         there: every,

@@ -9,6 +9,7 @@ use Rattle.meaning.proofs.Basic.Equivalence.{Equivalence}
 use Rattle.meaning.proofs.Claims.{described-01}
 use Rattle.classes.specs.Rows.{rel}
 use Rattle.classes.proofs.Meaning.{rows-decide}
+use Rattle.meaning.specs.File.Grammar.{mostStates}
 use Rattle.relations.specs.Relations.{rootRelation}
 
 module _ (I : Instrument) (accepted : Accepted I) (c : ℕ) (l : c < components I) where
@@ -19,5 +20,5 @@ module _ (I : Instrument) (accepted : Accepted I) (c : ℕ) (l : c < components 
   pub related-equivalence : Equivalence (table I c) Related
   related-equivalence = described-01 I accepted c l .relation (rootFormula I) .1
 
-  pub relation-decides : table I c .states ≤ 32 → DecidesPairs (table I c .states) (rel (rootRelation I c)) Related
+  pub relation-decides : table I c .states ≤ mostStates → DecidesPairs (table I c .states) (rel (rootRelation I c)) Related
   relation-decides m = rows-decide m (described-01 I accepted c l .relation (rootFormula I) .0)

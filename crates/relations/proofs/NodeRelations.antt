@@ -22,7 +22,7 @@ use Rattle.meaning.proofs.File.Nodes.{formula-at}
 use Rattle.instrument.specs.declared.Node as stored
 use Rattle.instrument.specs.Layout.{nodeOf}
 use Rattle.instrument.proofs.Rows.{sets-in}
-use Rattle.marks.specs.declared.Mark.{Mark}
+use Rattle.mark_rules.specs.declared.Mark.{Mark}
 use Rattle.marks.specs.Formulas.{formulaMark}
 use Rattle.marks.specs.NodeMarks.{noMark, Listing}
 use Rattle.marks.specs.Written.{Written}
@@ -30,6 +30,7 @@ use Rattle.marks.proofs.Written.{written-start, written-end, join-list, singles
 use Rattle.subformulas.specs.Under.{Closed}
 use Rattle.classes.specs.Related.{relatedAll}
 use Rattle.classes.proofs.Formulas.{top-rows, or-rows, ex-rows, eg-rows, eu-rows}
+use Rattle.meaning.specs.File.Grammar.{mostStates}
 use Rattle.relations.specs.Relations.{formulaRelation, signalRelation, comparing, noRelation, placeOf, kindRelation, ruleRelation}
 use Rattle.relations.specs.Relations.{Marked, neededRelation, listRelations, RelatedNodes, Relating}
 
@@ -80,7 +81,7 @@ relation-at t κ ns needed short k l h =
     (omega (arith, length-replicate 24 noRelation)) k l
     ∙ taken (has needed k) (formulaRelation t κ (formulaAt ns k)) noRelation h
 
-module _ (n : ℕ) (m : n ≤ 32) (ins outputs outs succ compared : List ℕ) where
+module _ (n : ℕ) (m : n ≤ mostStates) (ins outputs outs succ compared : List ℕ) where
   abbrev t : Table
   t = fromWords n ins outputs outs succ
 
@@ -168,7 +169,7 @@ module _
         kindRelation states inputs outputs outs succ compared (node .kind) (node .left) (getD marks k noMark) (getD marks left noMark)
         (getD r left []) (getD r right [])
 
-    pub relating-in : states ≤ 32 → (k : ℕ) (r : List (List ℕ)) (v : List ℕ) → k < count → true ≡ has needed k → (left right : ℕ)
+    pub relating-in : states ≤ mostStates → (k : ℕ) (r : List (List ℕ)) (v : List ℕ) → k < count → true ≡ has needed k → (left right : ℕ)
         → left ≡ placeOf (getD nodes k (nodeOf top) .left) → right ≡ placeOf (getD nodes k (nodeOf top) .right)
         → v ≡ ruleAt k r left right → Related k r → Related (k + 1) (set r k v)
     relating-in m k r v h i left right a b w s =

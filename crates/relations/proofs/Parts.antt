@@ -15,7 +15,7 @@ use Rattle.meaning.proofs.Basic.Entries.{list-length, list-at}
 use Rattle.instrument.specs.declared.Instrument.{Instrument}
 use Rattle.instrument.specs.Described.{Describes}
 use Rattle.instrument.proofs.Rows.{filled-at}
-use Rattle.marks.specs.declared.Mark.{Mark}
+use Rattle.mark_rules.specs.declared.Mark.{Mark}
 use Rattle.marks.specs.Formulas.{formulaMark}
 use Rattle.marks.specs.NodeMarks.{noMark, listMarks}
 use Rattle.subformulas.specs.Under.{underRoot, Closed}

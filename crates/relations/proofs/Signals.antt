@@ -14,11 +14,12 @@ use Rattle.meaning.proofs.Basic.Booleans.{test-eq}
 use Rattle.meaning.proofs.Basic.Lists.{at-listed, listed-at}
 use Rattle.marks.specs.Component.{Ascending}
 use Rattle.marks.specs.NodeMarks.{signalMark}
-use Rattle.marks.specs.Rules.{ownPass}
+use Rattle.mark_rules.specs.Rules.{ownPass}
 use Rattle.marks.specs.Written.{Unlisted}
 use Rattle.marks.proofs.Signals.{signal-own}
 use Rattle.classes.specs.Related.{relatedAll, relatedLevel}
 use Rattle.classes.proofs.Rows.{rows-same}
+use Rattle.meaning.specs.File.Grammar.{mostStates}
 use Rattle.relations.specs.Relations.{signalRelation}
 
 module _ (n : ℕ) (outputs outs : List ℕ) (w : ℕ) where
@@ -37,7 +38,7 @@ module _ (n : ℕ) (outputs outs : List ℕ) (w : ℕ) where
   own-pair true p q e = refl
   own-pair false p q e = refl
 
-  pub signal-level : n ≤ 32 → Ascending outputs → (j : ℕ) → j < length outputs → getD outputs j 0 ≡ w
+  pub signal-level : n ≤ mostStates → Ascending outputs → (j : ℕ) → j < length outputs → getD outputs j 0 ≡ w
       → relatedLevel outs n j ≡ signalRelation n outputs outs w
   unfolding relatedLevel signalRelation
   signal-level m a j l e =
@@ -48,7 +49,7 @@ module _ (n : ℕ) (outputs outs : List ℕ) (w : ℕ) where
       here : owns t w ≡ true
       here = test-eq (listed outputs w) true (λ h. tt) (λ h. rw (← e) (at-listed outputs j l))
 
-  pub signal-all : n ≤ 32 → (j : ℕ) → length outputs ≡ j → Unlisted outputs w j → relatedAll n ≡ signalRelation n outputs outs w
+  pub signal-all : n ≤ mostStates → (j : ℕ) → length outputs ≡ j → Unlisted outputs w j → relatedAll n ≡ signalRelation n outputs outs w
   unfolding relatedAll signalRelation
   signal-all m j e u =
       rows-same n (λ x y. true) (λ x y. not (owns t w) || Bool·beq (drives t x w) (drives t y w)) m (λ x y h k.

@@ -21,7 +21,7 @@ use Rattle.meaning.specs.Reference.Relation.{relB}
 use Rattle.instrument.specs.declared.Node.{Node}
 use Rattle.instrument.specs.declared.Instrument.{Instrument}
 use Rattle.instrument.specs.Described.{Describes}
-use Rattle.marks.specs.declared.Mark.{Mark}
+use Rattle.mark_rules.specs.declared.Mark.{Mark}
 use Rattle.marks.specs.Formulas.{formulaMark}
 use Rattle.marks.specs.NodeMarks.{noMark, Listing, listMarks}
 use Rattle.marks.specs.Written.{Written}

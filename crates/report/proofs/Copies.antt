@@ -45,4 +45,4 @@ copied text l s old h =
 -- the listing and a refusal's line are such texts
 pub listing-spelled : (k : Contents) → Promised limits k → (j : Judgement) (text : Text) → text ≡ textOf (listingText (instrumentOf k) j)
     → Spelled text (listingText (instrumentOf k) j)
-listing-spelled k p j text e = record { same = e; short = listing-length k p j }
+listing-spelled k p j text e = record { same = e; short = omega (arith, listing-length k p j) }

@@ -2,11 +2,10 @@
 use mathlib.Core.Path.{_≡_, ap₂}
 use mathlib.Core.List.{List, [], _++_}
 use lib.ListN.{length, getD}
-use native.Mathlib.Omega.{arith}
-use Prim.Native.Nat.{ℕ, _≤_, _<_}
+use Prim.Native.Nat.{ℕ, _+_, _*_, _≤_, _<_}
 use Rattle.meaning.specs.Instrument as meaning
 use Rattle.meaning.specs.Instrument.{components, table}
-use Rattle.meaning.specs.File.Grammar.{Contents, instrumentOf}
+use Rattle.meaning.specs.File.Grammar.{Contents, instrumentOf, limits, mostStates}
 use Rattle.meaning.specs.Reference.Answers.{classesAt}
 use Rattle.meaning.proofs.Basic.Entries.{join-same}
 use Rattle.answers.specs.Outcomes.{Judgement}
@@ -20,24 +19,15 @@ use Rattle.partitions.specs.Classes.{classesOf}
 use Rattle.partitions.proofs.Classes.{described-name}
 use Rattle.listing_lines.specs.Lines.{classLines}
 use Rattle.report.specs.Report.{Listed}
-use Rattle.listing_lines.proofs.Lengths.{lines-short}
+use Rattle.listing_lines.proofs.Lengths.{classes-length}
 use Rattle.listing_lines.proofs.Names.{line-same}
 
 module _ (t : Instrument) (k : Contents) (d : Describes t k) where
   abbrev I : meaning.Instrument
   I = instrumentOf k
 
-  pub described-few : (t .components ≤ 4) × ((i : ℕ) → i < t .components → getD (t .states) i 0 ≤ 32)
+  pub described-few : (t .components ≤ limits .components) × ((i : ℕ) → i < t .components → getD (t .states) i 0 ≤ mostStates)
   described-few = (count-bounds t k d .1, λ i l. states-bounds t k d i l .1)
-
-  -- its class lines have at most 381 bytes each
-  pub described-short : (names : List (List ℕ)) → length (classLines (t .components) (t .states) names) ≤ 1524
-  described-short names =
-      omega (
-        arith,
-        described-few .0,
-        lines-short (t .components) (λ i. getD (t .states) i 0) (λ i x. getD (getD names i []) x 0) (described-few .1),
-      )
 
   pub lines-same : (names : List (List ℕ)) → names ≡ classesOf I → classLines (t .components) (t .states) names ≡ listing.classLines I
   lines-same names e =
@@ -46,6 +36,11 @@ module _ (t : Instrument) (k : Contents) (d : Describes t k) where
       (λ i. classLine i (table I i .states) (classesAt I i)) (λ i l.
       rw (← table-states t k d i)
       (line-same i (table I i .states) (λ x. getD (getD (classesOf I) i []) x 0) (classesAt I i) (λ x h. described-name t k d i x l h))))
+
+  -- how long its class lines are at most
+  pub described-short : (names : List (List ℕ)) → names ≡ classesOf I
+      → length (classLines (t .components) (t .states) names) ≤ limits .components * (39 + 3 * mostStates)
+  described-short names e = rw (lines-same names e) (classes-length k (d .promised))
 
 pub listing-same : (t : Instrument) (names : List (List ℕ)) (size full : ℕ) (k : Contents) → Listed t names size full k → (j : Judgement)
     → verdictLine j ++ (classLines (t .components) (t .states) names ++ sizeLine size full) ≡ listingText (instrumentOf k) j

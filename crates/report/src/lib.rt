@@ -7,12 +7,14 @@ ghost use lib.Seq.{sets};
 ghost use Rattle.meaning.specs.File.Grammar.{Contents, instrumentOf};
 ghost use Rattle.meaning.specs.Reference.Answers.{entries, lentAfter};
 ghost use Rattle.instrument.specs.Described.{Describes};
+ghost use Rattle.instrument.specs.Outline.{whole};
 ghost use Rattle.partitions.specs.Classes.{classesOf};
 ghost use Rattle.answers.specs.Listing.{classLines, listingText, refusalLine};
 ghost use Rattle.text.specs.Texts.{textOf};
 ghost use Rattle.listing_lines.specs.Lines.{judgementFrom};
 ghost use Rattle.report.specs.Report.{Listed, Spelled, bytesIn};
-use instrument::Instrument;
+use class_names::AllNames;
+use instrument::Outline;
 use listing_lines::class_lines;
 use listing_lines::refusal_line;
 use listing_lines::size_line;
@@ -21,15 +23,15 @@ use text::Text;
 
 // All lines: the verdict with its stage, the class names of every component, and both sizes.
 pub fn listing_text(
-    t: Instrument,
-    names: [[u8; 32]; 4],
+    t: Outline,
+    names: AllNames,
     holds: bool,
     by_marks: bool,
     merged: usize,
     full: usize,
 ) -> Text
-    requires { ⌜ ((k : Contents) × Listed t names merged full k) ⌝ }
-    ensures { λ r. ⌜ ((k : Contents) → Listed t names merged full k → r ≡ textOf (listingText (instrumentOf k) (judgementFrom holds «by_marks»))) ⌝ }
+    requires { ⌜ ((nexts : List ℕ) × (k : Contents) × Listed (whole t nexts) names merged full k) ⌝ }
+    ensures { λ r. ⌜ ((nexts : List ℕ) (k : Contents) → Listed (whole t nexts) names merged full k → r ≡ textOf (listingText (instrumentOf k) (judgementFrom holds «by_marks»))) ⌝ }
 {
     let mut bytes = [0u8; 2048];
     let judged = verdict_line(holds, by_marks, &mut bytes, 0);
@@ -40,9 +42,9 @@ pub fn listing_text(
 }
 
 // The class names of every component alone.
-pub fn class_text(t: Instrument, names: [[u8; 32]; 4]) -> Text
-    requires { ⌜ ((k : Contents) × Describes t k) ⌝ }
-    ensures { λ r. ⌜ ((k : Contents) → Describes t k → names ≡ classesOf (instrumentOf k) → r ≡ textOf (classLines (instrumentOf k))) ⌝ }
+pub fn class_text(t: Outline, names: AllNames) -> Text
+    requires { ⌜ ((nexts : List ℕ) × (k : Contents) × Describes (whole t nexts) k × (names ≡ classesOf (instrumentOf k))) ⌝ }
+    ensures { λ r. ⌜ ((nexts : List ℕ) (k : Contents) → Describes (whole t nexts) k → names ≡ classesOf (instrumentOf k) → r ≡ textOf (classLines (instrumentOf k))) ⌝ }
 {
     let mut bytes = [0u8; 2048];
     let states = t.states;

@@ -6,6 +6,7 @@ ghost use Rattle.meaning.specs.Nodes as formula;
 ghost use Rattle.meaning.specs.Instrument as meaning;
 ghost use Rattle.marks.specs.NodeMarks.{Operands, Listing};
 ghost use Rattle.subformulas.specs.Under.{underRoot, withOperands};
+use instrument::Instrument;
 use instrument::Node;
 
 // A set of nodes and the operands of a node besides: its kind says which it has.
@@ -22,12 +23,12 @@ fn with_operands(set: u32, node: Node) -> u32
         4 => words::insert(set, node.left),
         5 => words::insert(set, node.left),
         6 => words::insert(words::insert(set, node.left), node.right),
-        7..=4294967295 => set,
+        7.. => set,
     }
 }
 
 // Operands are earlier nodes, so one way down from the root, the last node, finds all nodes under it.
-pub fn under_root(nodes: [Node; 24], count: u32) -> u32
+pub fn under_root(nodes: [Node; Instrument::MAX_NODES], count: u32) -> u32
     requires { ⌜ (0 < count) × ((ns : List (formula.Node ℕ)) × Listing nodes count ns) ⌝ }
     ensures { λ r. ⌜ ((I : meaning.Instrument) → Listing nodes count (I .nodes) → r ≡ underRoot I) ⌝ }
 {

@@ -6,11 +6,13 @@ use lib.Dec.{ltb}
 use borrow.Author.Tests.{lt-ltb, le-ltb}
 use lib.ListN.{length, getD, set, replicate, take, length-append}
 use lib.Seq.{sets, take-suc, length-sets}
+use native.Mathlib.Decide.{decLt}
+use native.Mathlib.Nat.{pow-suc}
 use native.Mathlib.Omega.{arith}
-use Prim.Native.Nat.{ℕ, zero, suc, _+_, _-_, _/_, _%_, _≤_, _<_}
+use Prim.Native.Nat.{ℕ, zero, suc, _+_, _-_, _*_, _/_, _%_, _^_, _≤_, _<_}
 use Rattle.meaning.proofs.Basic.Entries.{sets-append}
-use Rattle.answers.specs.Listing.{digitsOf, decimal}
-use Rattle.text.specs.Texts.{textOf, Put}
+use Rattle.answers.specs.Listing.{digitsOf, decimal, mostDigits}
+use Rattle.text.specs.Texts.{textOf, Put, Room}
 
 pub put-none : (at : ℕ) (old : List ℕ) → Put [] at at old old
 put-none at old = record { after = omega arith; buffer = refl }
@@ -31,6 +33,16 @@ put-length {l} {old} {new} {at} {r} p = ap length (p .buffer) ∙ length-sets ol
 
 pub put-same : {l k old new : List ℕ} {at r : ℕ} → l ≡ k → Put l at r old new → Put k at r old new
 put-same {l} {k} {old} {new} {at} {r} e p = subst (λ x. Put x at r old new) e p
+
+-- room for a part and the rest after it: for the part, and for the rest once it is put
+pub room-first : (l m : List ℕ) {out : List ℕ} {at : ℕ} → Room (l ++ m) at out → Room l at out
+room-first l m h = record { fits = omega (arith, h .fits, length-append l m) }
+
+pub room-rest : (l m : List ℕ) {old new : List ℕ} {at r : ℕ} → Room (l ++ m) at old → Put l at r old new → Room m r new
+room-rest l m h p = record { fits = omega (arith, h .fits, length-append l m, p .after, put-length p) }
+
+pub room-same : {l m out : List ℕ} {at : ℕ} → l ≡ m → Room l at out → Room m at out
+room-same {out = out} {at = at} e h = subst (λ t. Room t at out) e h
 
 -- in an array of zeros: a text
 pub put-text : {l bytes : List ℕ} {n : ℕ} → Put l 0 n (replicate 2048 0) bytes → record { bytes = bytes; count = n } ≡ textOf l
@@ -67,24 +79,57 @@ digits-high (suc places) v p l =
     (le-ltb v 10 l)
     ∙ ap (λ k. digitsOf k (v / 10) ++ ((48 + v % 10) ∷ [])) e
 
+-- how many digits there are: one more than of the number without its last one, and as many as the value asks for
+pub low-length : (places v : ℕ) → 0 < places → v < 10 → length (digitsOf places v) ≡ 1
+low-length places v p l = ap length (digits-low places v p l)
+
+pub high-length : (places v : ℕ) → 0 < places → 10 ≤ v → length (digitsOf places v) ≡ length (digitsOf (places - 1) (v / 10)) + 1
+high-length places v p l =
+    ap length (digits-high places v p l) ∙ length-append (digitsOf (places - 1) (v / 10)) ((48 + v % 10) ∷ [])
+
 shorter : (b : Bool) (l : List ℕ) (n : ℕ) → length l ≤ n → length (cond b [] l) ≤ n
 shorter true l n h = omega arith
 shorter false l n h = h
 
-pub digits-length : (places v : ℕ) → length (digitsOf places v) ≤ places
-digits-length zero v = omega arith
-digits-length (suc places) v =
+pub digits-most : (places v : ℕ) → length (digitsOf places v) ≤ places
+digits-most zero v = omega arith
+digits-most (suc places) v =
     omega (
       arith,
       length-append (cond (ltb v 10) [] (digitsOf places (v / 10))) ((48 + v % 10) ∷ []),
-      shorter (ltb v 10) (digitsOf places (v / 10)) places (digits-length places (v / 10)),
+      shorter (ltb v 10) (digitsOf places (v / 10)) places (digits-most places (v / 10)),
     )
 
--- ten places
-pub ten : {old new : List ℕ} {at r : ℕ} (v : ℕ) → Put (digitsOf 10 v) at r old new → Put (decimal v) at r old new
-unfolding decimal
-ten v p = p
+pub digits-few : (places k v : ℕ) → 0 < k → v < 10 ^ k → length (digitsOf places v) ≤ k
+digits-few zero k v p h = omega arith
+digits-few (suc places) zero v p h = absurd (omega arith)
+digits-few (suc places) (suc k) v p h =
+    elim (decLt v 10) [
+      | yes l ↦ omega (arith, low-length (suc places) v (omega arith) l)
+      | no l ↦ more k (omega arith) (rw (pow-suc 10 k) at h) (λ q r. digits-few places k (v / 10) q r)
+    ]
+  where
+    more : (k : ℕ) → 10 ≤ v → v < 10 ^ k * 10 → (0 < k → v / 10 < 10 ^ k → length (digitsOf places (v / 10)) ≤ k) → length (digitsOf (suc places) v) ≤ suc k
+    more zero l h f = absurd (omega arith)
+    more (suc k) l h f =
+        let e : suc places - 1 ≡ places = omega arith in
+        let m : length (digitsOf (suc places - 1) (v / 10)) ≤ suc k = rw e (f (omega arith) (omega arith)) in
+        omega (arith, high-length (suc places) v (omega arith) l, m)
 
-pub decimal-length : (v : ℕ) → length (decimal v) ≤ 10
+-- all places
+pub all-places : {old new : List ℕ} {at r : ℕ} (v : ℕ) → Put (digitsOf mostDigits v) at r old new → Put (decimal v) at r old new
 unfolding decimal
-decimal-length v = digits-length 10 v
+all-places v p = p
+
+pub all-room : {out : List ℕ} {at : ℕ} (v : ℕ) → Room (decimal v) at out → Room (digitsOf mostDigits v) at out
+unfolding decimal
+all-room v h = h
+
+pub decimal-most : (v : ℕ) → length (decimal v) ≤ mostDigits
+unfolding decimal
+decimal-most v = digits-most mostDigits v
+
+-- a number below 10 ^ k has at most k digits
+pub decimal-few : (k v : ℕ) → 0 < k → v < 10 ^ k → length (decimal v) ≤ k
+unfolding decimal
+decimal-few k v p h = digits-few mostDigits k v p h

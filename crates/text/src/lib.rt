@@ -3,8 +3,8 @@ ghost use mathlib.Core.Path.{_≡_};
 ghost use mathlib.Core.List.{[], _∷_};
 ghost use Prim.Native.Nat.{_+_, _≤_};
 ghost use lib.ListN.{length};
-ghost use Rattle.answers.specs.Listing.{decimal, digitsOf};
-ghost use Rattle.text.specs.Texts.{Put, textOf};
+ghost use Rattle.answers.specs.Listing.{decimal, digitsOf, mostDigits};
+ghost use Rattle.text.specs.Texts.{Put, Room, textOf};
 
 // The first `count` bytes are the text; the others are 0.
 pub struct Text {
@@ -23,6 +23,9 @@ impl Text {
         Text { bytes, count }
     }
 }
+
+// A number of 64 bits has at most so many digits.
+const MOST_DIGITS: u32 = 20;
 
 // One byte at a place of the buffer; the place after it.
 pub fn byte(b: u8, out: &mut [u8], at: usize) -> usize
@@ -47,16 +50,16 @@ pub fn word(w: &[u8], out: &mut [u8], at: usize) -> usize
 }
 
 // A number in decimal digits.
-pub fn decimal(v: u32, out: &mut [u8], at: usize) -> usize
-    requires { ⌜ at + 10 ≤ length (now out) ⌝ }
+pub fn decimal(v: u64, out: &mut [u8], at: usize) -> usize
+    requires { ⌜ Room (decimal v) at (now out) ⌝ }
     ensures { λ r. ⌜ Put (decimal v) at r (now (out .entry)) (now (out .exit)) ⌝ }
 {
-    digits(10, v, out, at)
+    digits(MOST_DIGITS, v, out, at)
 }
 
 // The digits of v, at most so many places.
-fn digits(places: u32, v: u32, out: &mut [u8], at: usize) -> usize
-    requires { ⌜ (places ≤ 10) × (at + places ≤ length (now out)) ⌝ }
+fn digits(places: u32, v: u64, out: &mut [u8], at: usize) -> usize
+    requires { ⌜ (places ≤ mostDigits) × Room (digitsOf places v) at (now out) ⌝ }
     ensures { λ r. ⌜ Put (digitsOf places v) at r (now (out .entry)) (now (out .exit)) ⌝ }
 {
     if places == 0 {

@@ -65,15 +65,12 @@ module _ (t : code.Instrument) (k : Contents) (d : Describes t k) where
   abbrev I : Instrument
   I = instrumentOf k
 
-  pub in-own : (i x : ℕ) → i < t .components → ltb x (getD (t .states) i 0) ≡ choose (ltb i (components I)) (ltb x (table I i .states)) (eqb x 0)
-  in-own i x l = rw (lt-ltb i (components I) (omega (arith, table-count t k d)), table-states t k d i) refl
-
-  pub in-past : (i x : ℕ) → t .components ≤ i → eqb x 0 ≡ choose (ltb i (components I)) (ltb x (table I i .states)) (eqb x 0)
-  in-past i x l = rw (le-ltb i (components I) (omega (arith, table-count t k d))) refl
-
   -- an asked state is one of each component
   abbrev pub inside : List ℕ → ℕ → Bool
   inside s i = choose (ltb i (components I)) (ltb (getD s i 0) (table I i .states)) (eqb (getD s i 0) 0)
+
+  pub inside-by : (s : List ℕ) (i : ℕ) → choose (ltb i (t .components)) (ltb (getD s i 0) (getD (t .states) i 0)) (eqb (getD s i 0) 0) ≡ inside s i
+  inside-by s i = rw (table-count t k d, table-states t k d i) refl
 
   pub asked-below : (s : List ℕ) → asksState I s ≡ true → (i : ℕ) → i < components I → getD s i 0 < table I i .states
   asked-below s e i l =

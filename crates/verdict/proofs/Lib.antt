@@ -1,5 +1,3 @@
--- the starts by marks
-pub mod Starts
 -- the starts by merged words
 pub mod Holding
 -- the order of the stages

@@ -5,7 +5,7 @@ use Rattle.meaning.specs.Instrument.{Instrument}
 use Rattle.meaning.specs.Reference.Answers.{mergedSize}
 use Rattle.meaning.specs.Reference.Tests.{allOf}
 use Rattle.meaning.specs.Reference.Verdict.{staged}
-use Rattle.answers.specs.Outcomes.{lookedUp, mostStates}
+use Rattle.answers.specs.Outcomes.{lookedUp, mostCombined}
 use Rattle.meaning.specs.Verdict.{Answer, judged, clash, oversized, holds, fails, marks, merged}
 use Rattle.verdict.specs.declared.Verdict.{Verdict}
 use Rattle.verdict.specs.declared.Told as told
@@ -27,4 +27,4 @@ orElse told.the-variants.Nothing a = a
 
 -- the answer where marks do not decide: 12, or whether every start is answered with true in the merged words
 abbrev pub mergedStage : Instrument → Answer
-mergedStage I = staged false false false (leb (mergedSize I) mostStates) (allOf (lookedUp I) (I .starts))
+mergedStage I = staged false false false (leb (mergedSize I) mostCombined) (allOf (lookedUp I) (I .starts))

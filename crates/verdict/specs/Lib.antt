@@ -1,5 +1,4 @@
 -- What the contracts say
 pub mod Answers
-pub mod Starts
--- What the loops of the code keep
+-- What the loop of the code keeps
 pub mod Progress

@@ -1,4 +1,4 @@
-// Sets of states as machine words: state t is in the set w where bit t of w is 1. Each contract equates the result with a definition of
+// Sets of signals and of nodes as words of 32 bits: t is in the set w where bit t of w is 1. Each contract equates the result with a definition of
 // specs/Sets.antt; what that definition means for membership is proved once, for every width, in proofs/Members.antt.
 ghost use mathlib.Core.Path.{_≡_};
 ghost use Prim.Native.Nat.{_≤_, _<_};
@@ -53,50 +53,6 @@ pub fn complement(w: u32, s: u32) -> u32
     ensures { λ r. ⌜ r ≡ sets.complement s w ⌝ }
 {
     below(s) & !w
-}
-
-// Whether everything in a is in b.
-pub fn subset(a: u32, b: u32) -> bool
-    ensures { λ r. ⌜ r ≡ sets.subset a b ⌝ }
-{
-    intersection(a, b) == a
-}
-
-// Whether nothing is in w.
-pub fn empty(w: u32) -> bool
-    ensures { λ r. ⌜ r ≡ sets.empty w ⌝ }
-{
-    w == 0
-}
-
-// The lowest member, 32 if there is none.
-pub fn lowest(w: u32) -> u32
-    ensures { λ r. ⌜ r ≡ sets.lowest 32 w ⌝ }
-{
-    u32::trailing_zeros(w)
-}
-
-// w but for t.
-pub fn remove(w: u32, t: u32) -> u32
-    requires { ⌜ t < 32 ⌝ }
-    ensures { λ r. ⌜ r ≡ sets.without 32 w t ⌝ }
-{
-    w & !(1u32 << t)
-}
-
-// w but for its lowest member.
-pub fn without_lowest(w: u32) -> u32
-    requires { ⌜ 0 < w ⌝ }
-    ensures { λ r. ⌜ r ≡ sets.without 32 w (sets.lowest 32 w) ⌝ }
-{
-    w & (w - 1)
-}
-
-// How many members there are.
-pub fn size(w: u32) -> u32
-    ensures { λ r. ⌜ r ≡ sets.size 32 w ⌝ }
-{
-    u32::count_ones(w)
 }
 
 // Sets the first n words of an array to 0.

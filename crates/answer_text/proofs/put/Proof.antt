@@ -3,12 +3,13 @@ use mathlib.Core.Path.{_≡_}
 use native.Mathlib.Omega.{arith}
 use borrow.Author.Needs.{needs}
 use Rattle.report.proofs.Copies.{spelled-count}
+use Rattle.answer_text.specs.Settled.{textBytes}
 use Rattle.answer_text.proofs.Buffers.{put-made}
 use Rattle.answer_text.proofs.put.Statement.{statement}
 use Rattle.answer_text.proofs.put.Tie as tie
 
 -- the buffer's length
-room : (c : tie.After-append-arg) → length (c .before .args .out .now) ≡ 45057
+room : (c : tie.After-append-arg) → length (c .before .args .out .now) ≡ textBytes
 room c = search needs
 
 append-requires : tie.Need-append-requires

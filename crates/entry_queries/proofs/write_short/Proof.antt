@@ -4,6 +4,7 @@ use native.Mathlib.Omega.{arith}
 use Rattle.meaning.specs.File.Grammar.{instrumentOf}
 use Rattle.meaning.specs.Reference.Answers.{fitting, mergedSize, mergedWord, mergedWords}
 use Rattle.meaning.proofs.Basic.Entries.{list-length}
+use Rattle.instrument.specs.Outline.{whole}
 use Rattle.cursor.specs.declared.Refusal.the-variants.{MergedSize}
 use Rattle.merged_words.proofs.Tables.{size-named}
 use Rattle.entry_queries.proofs.Answering.{oversized, within-room, too-short, written}
@@ -16,22 +17,23 @@ all-marks-requires c κs = search needs
 
 marked-classes-requires : tie.Need-marked-classes-requires
 marked-classes-requires c κs =
-    let (k, d) = c .before .before .pre in
+    let (k, d) = c .before .before .before .pre in
     (k, record { describes = d; marked = c .all-marks .ensures k d })
 
 merged-count-requires : tie.Need-merged-count-requires
-merged-count-requires c κs = search needs
+merged-count-requires c κs = let (k, d) = c .before .before .before .before .pre in (_, k, d)
 
 returns : tie.Need-returns
 returns c =
     λ k d.
     let n = c .before in
     let m = n .before .before in
-    let s = m .before .before in
+    let s = m .before .before .before in
+    let t = whole (s .args .t) (s .args .nexts .now) in
     let marked = m .all-marks .ensures k d in
     let e = n .before .marked-classes .ensures k (record { describes = d; marked = marked }) in
-    let size = size-named (s .args .t) k d (n .before .marked-classes .result) e in
-    let count = n .merged-count .ensures k d in
+    let size = size-named t k d (n .before .marked-classes .result) e in
+    let count = n .merged-count .ensures _ k d in
     let I = instrumentOf k in
     oversized (mergedSize I) (fitting (length (s .args .out .now)) (mergedWords I)) MergedSize (s .args .out .now) (omega (arith, count, size))
 
@@ -40,11 +42,12 @@ returns-2 c =
     λ k d.
     let n = c .before .before in
     let m = n .before .before in
-    let s = m .before .before in
+    let s = m .before .before .before in
+    let t = whole (s .args .t) (s .args .nexts .now) in
     let marked = m .all-marks .ensures k d in
     let e = n .before .marked-classes .ensures k (record { describes = d; marked = marked }) in
-    let size = size-named (s .args .t) k d (n .before .marked-classes .result) e in
-    let count = n .merged-count .ensures k d in
+    let size = size-named t k d (n .before .marked-classes .result) e in
+    let count = n .merged-count .ensures _ k d in
     let I = instrumentOf k in
     let old = s .args .out .now in
     within-room (mergedSize I) 12 (fitting (length old) (mergedWords I)) (omega (arith, count, size))
@@ -53,13 +56,14 @@ returns-2 c =
 write-merged-requires : tie.Need-write-merged-requires
 write-merged-requires c κs =
     let n = c .before .before .before in
-    let (k, d) = n .before .before .before .before .pre in
+    let (k, d) = n .before .before .before .before .before .pre in
     let m = n .before .before in
-    let s = m .before .before in
+    let s = m .before .before .before in
+    let t = whole (s .args .t) (s .args .nexts .now) in
     let marked = m .all-marks .ensures k d in
     let e = n .before .marked-classes .ensures k (record { describes = d; marked = marked }) in
-    let size = size-named (s .args .t) k d (n .before .marked-classes .result) e in
-    let count = n .merged-count .ensures k d in
+    let size = size-named t k d (n .before .marked-classes .result) e in
+    let count = n .merged-count .ensures _ k d in
     record {
       contents = k;
       prepared = record { describes = d; marked = marked; named = e };
@@ -75,11 +79,12 @@ returns-3 c =
     λ k d.
     let n = c .before .before .before .before .before .before in
     let m = n .before .before in
-    let s = m .before .before in
+    let s = m .before .before .before in
+    let t = whole (s .args .t) (s .args .nexts .now) in
     let marked = m .all-marks .ensures k d in
     let e = n .before .marked-classes .ensures k (record { describes = d; marked = marked }) in
-    let size = size-named (s .args .t) k d (n .before .marked-classes .result) e in
-    let count = n .merged-count .ensures k d in
+    let size = size-named t k d (n .before .marked-classes .result) e in
+    let count = n .merged-count .ensures _ k d in
     let I = instrumentOf k in
     let old = s .args .out .now in
     within-room (mergedSize I) 12 (fitting (length old) (mergedWords I)) (omega (arith, count, size))

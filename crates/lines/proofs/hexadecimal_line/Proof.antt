@@ -4,11 +4,11 @@ use lib.ListN.{length, getD}
 use Prim.Native.Nat.{ℕ, _-_}
 use Rattle.answers.specs.Lines.{hexadecimalByte}
 use Rattle.meaning.specs.Reference.Answers.{joinBelow}
+use Rattle.answers.specs.Listing.{lineEnd}
 use Rattle.text.specs.Texts.{Put}
-use Rattle.text.proofs.Texts.{put-length}
+use Rattle.text.proofs.Texts.{put-length, room-first, room-rest}
 use Rattle.listing_lines.specs.Appending.{Appending}
 use Rattle.listing_lines.proofs.Appending.{appending-start, appending-room, appending-more, appending-end}
-use Rattle.lines.proofs.Lengths.{digits-length}
 use Rattle.lines.proofs.Making.{line-made}
 use Rattle.lines.proofs.hexadecimal_line.Statement.{statement}
 use Rattle.lines.proofs.hexadecimal_line.Tie as tie
@@ -30,8 +30,8 @@ byte-text-requires c κs =
     let l = c .before .before .before in
     let s = l .before .before .before in
     let ws = s .args .bytes .now in
-    appending-room (length ws) (piece ws) 0 (s .args .out .now) 2 (l .loop .i) (l .loop .at) (l .loop .out) (λ x h. omega arith) (omega (arith, s .pre))
-    (omega arith) (l .loop .inv)
+    appending-room (length ws) (piece ws) 0 (s .args .out .now) (l .loop .i) (l .loop .at) (l .loop .out) (room-first _ lineEnd (s .pre)) (omega arith)
+    (l .loop .inv) .fits
 
 loop-again : tie.Need-loop-again Inv-loop μ-loop
 loop-again c =
@@ -49,17 +49,12 @@ ended c =
     appending-end _ (piece (l .before .before .before .args .bytes .now)) _ _ (l .loop .i) _ _ (omega arith) (l .loop .inv)
 
 byte-requires : tie.Need-byte-requires Inv-loop μ-loop
-byte-requires c κs =
-    let s = c .before .before .before .before .before in
-    let ws = s .args .bytes .now in
-    let p = ended (c .before) in
-    omega (arith, p .after, put-length p, digits-length ws, s .pre)
+byte-requires c κs = room-rest _ lineEnd (c .before .before .before .before .before .pre) (ended (c .before)) .fits
 
 returns : tie.Need-returns Inv-loop μ-loop
 returns c =
-    let s = c .before .before .before .before .before .before .before .before in
-    let ws = s .args .bytes .now in
-    line-made (omega (arith, s .pre, digits-length ws)) (ended (c .before .before .before .before)) (c .before .before .byte .ensures)
+    let e = c .before .before .before .before in
+    line-made (e .before .before .before .before .pre) (ended e) (c .before .before .byte .ensures)
 
 pub hexadecimal-line-spec : {M : Type 1} → statement M
 hexadecimal-line-spec =

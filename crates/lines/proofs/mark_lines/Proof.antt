@@ -1,12 +1,10 @@
 use native.Mathlib.Omega.{arith}
-use native.Mathlib.Nat.{div-le-self, mod-le}
 use Prim.Native.Nat.{_-_}
 use borrow.Author.Needs.{needs}
 use Rattle.answers.specs.Lines.{markLineAt}
 use Rattle.text.proofs.Texts.{put-length}
 use Rattle.listing_lines.specs.Appending.{Appending}
 use Rattle.listing_lines.proofs.Appending.{appending-start, appending-room, appending-more, appending-end}
-use Rattle.lines.proofs.Lengths.{mark-short, marks-short}
 use Rattle.lines.proofs.Making.{put-made}
 use Rattle.lines.proofs.mark_lines.Statement.{statement}
 use Rattle.lines.proofs.mark_lines.Tie as tie
@@ -24,13 +22,8 @@ mark-text-requires : tie.Need-mark-text-requires Inv-loop μ-loop
 mark-text-requires c κs =
     let l = c .before .before .before .before in
     let s = l .before .before .before in
-    let nodes = s .args .nodes in
-    let j = l .loop .j in (
-      omega (arith, div-le-self j nodes, s .pre),
-      omega (arith, mod-le j nodes, s .pre),
-      appending-room _ (markLineAt nodes (s .args .marks .now)) 0 (s .args .out .now) 69 j (l .loop .at) (l .loop .out) (λ j h. mark-short _ _ _ _)
-          (omega (arith, s .pre)) (omega arith) (l .loop .inv),
-    )
+    appending-room _ (markLineAt (s .args .nodes) (s .args .marks .now)) 0 (s .args .out .now) (l .loop .j) (l .loop .at) (l .loop .out) (s .pre .1)
+    (omega arith) (l .loop .inv)
 
 loop-again : tie.Need-loop-again Inv-loop μ-loop
 loop-again c =
@@ -43,7 +36,7 @@ returns c =
     let l = c .before in
     let s = l .before .before .before in
     let ws = s .args .marks .now in
-    put-made (omega (arith, marks-short (s .args .nodes) ws (s .pre .1), s .pre .2))
+    put-made (s .pre .1)
     (appending-end _ (markLineAt (s .args .nodes) ws) _ _ (l .loop .j) _ _ (omega arith) (l .loop .inv))
 
 pub mark-lines-spec : {M : Type 1} → statement M

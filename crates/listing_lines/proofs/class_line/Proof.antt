@@ -1,26 +1,30 @@
-use lib.ListN.{length, getD, length-append}
+use mathlib.Core.List.{_++_}
 use borrow.Author.Needs.{needs}
-use Rattle.text.proofs.Texts.{put-more, decimal-length}
-use Rattle.answers.specs.Listing.{decimal, componentLabel, classesLabel}
-use Rattle.listing_lines.proofs.Lengths.{names-short}
-use Rattle.listing_lines.proofs.Parts.{put-after}
+use Rattle.text.specs.Texts.{Room}
+use Rattle.text.proofs.Texts.{put-more, room-first, room-rest}
+use Rattle.answers.specs.Listing.{decimal, componentLabel, classesLabel, lineEnd}
+use Rattle.listing_lines.specs.Lines.{namesText}
+use Rattle.listing_lines.proofs.Parts.{put-after, room-three}
 use Rattle.listing_lines.proofs.class_line.Statement.{statement}
 use Rattle.listing_lines.proofs.class_line.Tie as tie
 
+-- room for the label and what follows it
+room : (s : tie.Start) → Room ((componentLabel ++ (decimal (s .args .c) ++ classesLabel)) ++ (namesText (s .args .names .now) ++ lineEnd)) (s .args .at) (s .args .out .now)
+room s = room-three componentLabel (decimal (s .args .c)) classesLabel (namesText (s .args .names .now) ++ lineEnd) (s .pre)
+
+numbered-requires : tie.Need-numbered-requires
+numbered-requires c κs = room-first _ _ (room (c .before .before .before .before .before))
+
 spaced-names-requires : tie.Need-spaced-names-requires
 spaced-names-requires c κs =
-    let v = c .before .before .before .before .before .before .before .before .before .args .c in
-    search (needs, decimal-length v, length-append (decimal v) classesLabel)
+    let n = c .before .before .before in
+    room-first _ _ (room-rest _ _ (room (n .before .before .before .before .before .before)) (n .numbered .ensures))
 
 byte-requires : tie.Need-byte-requires
 byte-requires c κs =
-    let a = c .before .before .before .before .before .before .before .before .before .before .before .before .before .args in
-    search (
-      needs,
-      decimal-length (a .c),
-      length-append (decimal (a .c)) classesLabel,
-      names-short (length (a .names .now)) (λ x. getD (a .names .now) x 0),
-    )
+    let d = c .before .before .before in
+    let n = d .before .before .before .before in
+    room-rest _ _ (room-rest _ _ (room (n .before .before .before .before .before .before)) (n .numbered .ensures)) (d .spaced-names .ensures) .fits
 
 returns : tie.Need-returns
 returns c =
@@ -34,7 +38,7 @@ class-line-spec =
     (tie.spec
     (λ c. search needs)
     (λ c. search needs)
-    (λ c κs. search needs)
+    numbered-requires
     spaced-names-requires
     byte-requires
     (λ c. search needs)

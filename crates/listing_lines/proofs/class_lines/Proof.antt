@@ -5,7 +5,6 @@ use Prim.Native.Nat.{ℕ, _-_}
 use Rattle.answers.specs.Listing.{classLine}
 use Rattle.text.proofs.Texts.{put-length}
 use Rattle.listing_lines.specs.Appending.{Appending}
-use Rattle.listing_lines.proofs.Lengths.{class-line-short}
 use Rattle.listing_lines.proofs.Appending.{appending-start, appending-room, appending-more, appending-end}
 use Rattle.listing_lines.proofs.class_lines.Statement.{statement}
 use Rattle.listing_lines.proofs.class_lines.Tie as tie
@@ -26,11 +25,11 @@ component-line-requires : tie.Need-component-line-requires Inv-loop μ-loop
 component-line-requires c κs =
     let l = c .before .before .before in
     let s = l .before .before in
-    let few = s .pre .1 in (
-      omega (arith, s .pre .0),
+    let few = s .pre .0 .1 in (
+      omega (arith, s .pre .0 .0),
       few (l .loop .c) (omega arith),
-      appending-room (s .args .components) (piece (s .args .t2) (s .args .t3)) (s .args .at) (s .args .out .now) 381 (l .loop .c) (l .loop .next)
-          (l .loop .out) (λ i h. class-line-short i _ _ (few i h)) (omega (arith, s .pre)) (omega arith) (l .loop .inv),
+      appending-room (s .args .components) (piece (s .args .t2) (s .args .t3)) (s .args .at) (s .args .out .now) (l .loop .c) (l .loop .next)
+          (l .loop .out) (s .pre .1) (omega arith) (l .loop .inv),
     )
 
 loop-again : tie.Need-loop-again Inv-loop μ-loop
@@ -52,10 +51,10 @@ class-lines-spec =
     Inv-loop
     μ-loop
     loop-holds
-    (λ c. omega (arith, c .before .before .before .pre .0))
-    (λ c. omega (arith, c .before .before .before .pre .0))
-    (λ c. omega (arith, c .before .before .before .pre .0))
-    (λ c. omega (arith, c .before .before .before .pre .0))
+    (λ c. omega (arith, c .before .before .before .pre .0 .0))
+    (λ c. omega (arith, c .before .before .before .pre .0 .0))
+    (λ c. omega (arith, c .before .before .before .pre .0 .0))
+    (λ c. omega (arith, c .before .before .before .pre .0 .0))
     component-line-requires
     (λ c. omega arith)
     (λ c. omega arith)

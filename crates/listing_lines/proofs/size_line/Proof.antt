@@ -1,21 +1,29 @@
-use lib.ListN.{length-append}
+use mathlib.Core.List.{_++_}
 use borrow.Author.Needs.{needs}
-use Rattle.text.proofs.Texts.{put-more, decimal-length}
-use Rattle.answers.specs.Listing.{decimal, mergedLabel, ofLabel}
-use Rattle.listing_lines.proofs.Parts.{put-after}
+use Rattle.text.specs.Texts.{Room}
+use Rattle.text.proofs.Texts.{put-more, room-first, room-rest}
+use Rattle.answers.specs.Listing.{decimal, lineEnd, mergedLabel, ofLabel}
+use Rattle.listing_lines.proofs.Parts.{put-after, room-three}
 use Rattle.listing_lines.proofs.size_line.Statement.{statement}
 use Rattle.listing_lines.proofs.size_line.Tie as tie
 
+-- room for the label and what follows it
+room : (s : tie.Start) → Room ((mergedLabel ++ (decimal (s .args .merged) ++ ofLabel)) ++ (decimal (s .args .full) ++ lineEnd)) (s .args .at) (s .args .out .now)
+room s = room-three mergedLabel (decimal (s .args .merged)) ofLabel (decimal (s .args .full) ++ lineEnd) (s .pre)
+
+numbered-requires : tie.Need-numbered-requires
+numbered-requires c κs = room-first _ _ (room (c .before .before .before .before))
+
 decimal-requires : tie.Need-decimal-requires
 decimal-requires c κs =
-    let m = c .before .before .before .before .before .before .before .before .args .merged in
-    search (needs, decimal-length m, length-append (decimal m) ofLabel)
+    let n = c .before .before .before in
+    room-first _ _ (room-rest _ _ (room (n .before .before .before .before .before)) (n .numbered .ensures))
 
 byte-requires : tie.Need-byte-requires
 byte-requires c κs =
-    let s = c .before .before .before .before .before .before .before .before .before .before .before .before in
-    let m = s .args .merged in
-    search (needs, decimal-length m, length-append (decimal m) ofLabel, decimal-length (s .args .full))
+    let d = c .before .before .before in
+    let n = d .before .before .before .before in
+    room-rest _ _ (room-rest _ _ (room (n .before .before .before .before .before)) (n .numbered .ensures)) (d .decimal .ensures) .fits
 
 returns : tie.Need-returns
 returns c =
@@ -29,7 +37,7 @@ size-line-spec =
     (tie.spec
     (λ c. search needs)
     (λ c. search needs)
-    (λ c κs. search needs)
+    numbered-requires
     decimal-requires
     byte-requires
     (λ c. search needs)

@@ -5,7 +5,6 @@ use Prim.Native.Nat.{ℕ, _-_}
 use Rattle.answers.specs.Listing.{decimal, space}
 use Rattle.text.proofs.Texts.{put-length}
 use Rattle.listing_lines.specs.Appending.{Appending}
-use Rattle.listing_lines.proofs.Lengths.{name-short}
 use Rattle.listing_lines.proofs.Appending.{appending-start, appending-room, appending-more, appending-end}
 use Rattle.listing_lines.proofs.spaced_names.Statement.{statement}
 use Rattle.listing_lines.proofs.spaced_names.Tie as tie
@@ -26,8 +25,8 @@ spaced-name-requires : tie.Need-spaced-name-requires Inv-loop μ-loop
 spaced-name-requires c κs =
     let l = c .before .before .before in
     let s = l .before .before .before in
-    appending-room (length (s .args .names .now)) (piece (s .args .names .now)) (s .args .at) (s .args .out .now) 11 (l .loop .x) (l .loop .next) (l .loop .out)
-    (λ x h. name-short (getD (s .args .names .now) x 0)) (omega (arith, s .pre)) (omega arith) (l .loop .inv)
+    appending-room (length (s .args .names .now)) (piece (s .args .names .now)) (s .args .at) (s .args .out .now) (l .loop .x) (l .loop .next)
+    (l .loop .out) (s .pre) (omega arith) (l .loop .inv)
 
 loop-again : tie.Need-loop-again Inv-loop μ-loop
 loop-again c =

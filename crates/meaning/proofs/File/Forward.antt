@@ -42,7 +42,7 @@ module _ (file : List ℕ) where
   number-past at =
       let l = length-drop at file in
       says-map (λ v n. (at < n) × (n ≤ at + length (drop at file))) (Past at) (λ v n h. (h .0, omega (arith, h .0, h .1)))
-      (number limits file at) (groups-on 15 4 (drop at file) at)
+      (number limits file at) (groups-on (limits .lastGroup) (limits .groupsBefore) (drop at file) at)
 
   -- a test reads nothing
   tested : {A : Type 0} (b : Bool) (r n at : ℕ) (a : A) → Past {A = A} at a n → Says (Past at) (on (demand b r file n) (λ x m. found a m))

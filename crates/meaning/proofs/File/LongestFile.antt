@@ -1,4 +1,4 @@
--- A good file of 10,771 bytes, the most that one has (File/Longest): four components of 32 states and four inputs, with twelve outputs together,
+-- A good file of 41,651 bytes, the most that one has (File/Longest): four components of 64 states and four inputs, with twelve outputs together,
 -- eight of them in one component; 24 nodes and 64 starts; each number as long as it can be.
 use mathlib.Core.Path.{_∙_, _≡_, ap, refl, subst}
 use mathlib.Core.Bool.{_&&_, true}
@@ -8,7 +8,7 @@ use lib.ListN.{getD, length, replicate}
 use native.Mathlib.Omega.{arith}
 use Prim.Native.Nat.{_+_, _-_, _<_, _^_, suc, ℕ}
 use Rattle.words.specs.Sets.{digit, insert}
-use Rattle.meaning.specs.File.Grammar.{Component, Contents, between, component, components, drivenBy, earlier, finished, limits}
+use Rattle.meaning.specs.File.Grammar.{Component, Contents, between, component, components, drivenBy, earlier, finished, limits, mostNexts, mostStates}
 use Rattle.meaning.specs.File.Grammar.{node, nodes, number, readFile, signals, start, startState, whole, withAll}
 use Rattle.meaning.specs.File.Number.{groups}
 use Rattle.meaning.specs.File.Parser.{Done, demand, done, found, listOf, on, repeat}
@@ -18,22 +18,25 @@ use Rattle.meaning.proofs.Basic.Booleans.{and-r, is-true}
 use Rattle.meaning.proofs.File.Written.{Ends, Wrote, copies, ends-bind, listable, wrote-between, wrote-bind, wrote-byte, wrote-copies}
 use Rattle.meaning.proofs.File.Written.{wrote-less, wrote-map, wrote-more, wrote-named, wrote-none, wrote-number, wrote-signals}
 
--- the set of state 31, which takes five bytes
+-- the set of the last state, which takes ten bytes
+abbrev lastSet : ℕ
+lastSet = 2 ^ (mostStates - 1)
+
 abbrev setBytes : List ℕ
-setBytes = 128 ∷ 128 ∷ 128 ∷ 128 ∷ 8 ∷ []
+setBytes = 128 ∷ 128 ∷ 128 ∷ 128 ∷ 128 ∷ 128 ∷ 128 ∷ 128 ∷ 128 ∷ 1 ∷ []
 
 -- a component of the largest size: its inputs, its outputs, and the bytes of each state's output word
 abbrev largest : List ℕ → List ℕ → List ℕ → List ℕ
 largest inputs outputs word =
-    (32 ∷ []) ++ ((4 ∷ []) ++ (inputs ++ ((length outputs ∷ []) ++ (outputs ++ (copies 32 word ++ copies 512 setBytes)))))
+    (mostStates ∷ []) ++ ((4 ∷ []) ++ (inputs ++ ((length outputs ∷ []) ++ (outputs ++ (copies mostStates word ++ copies mostNexts setBytes)))))
 
 abbrev largestComponent : List ℕ → List ℕ → ℕ → Component
 largestComponent inputs outputs w =
-    record { states = 32; inputs = inputs; outputs = outputs; outs = replicate 32 w; nexts = replicate 512 (2 ^ 31) }
+    record { states = mostStates; inputs = inputs; outputs = outputs; outs = replicate mostStates w; nexts = replicate mostNexts lastSet }
 
-wrote-set : Wrote (number limits) setBytes (2 ^ 31)
+wrote-set : Wrote (number limits) setBytes lastSet
 unfolding groups
-wrote-set = wrote-number limits setBytes (2 ^ 31) (λ rest at. ap (λ n. found (2 ^ 31) n) (omega arith))
+wrote-set = wrote-number limits setBytes lastSet (λ rest at. ap (λ n. found lastSet n) (omega arith))
 
 wrote-largest : (driven : ℕ) (inputs outputs word : List ℕ) (w : ℕ) → length inputs ≡ 4 → T (listable 12 0 0 inputs)
     → T (listable 12 (withAll driven inputs) 0 outputs) → T (leb 0 (length outputs) && leb (length outputs) 8)
@@ -41,16 +44,16 @@ wrote-largest : (driven : ℕ) (inputs outputs word : List ℕ) (w : ℕ) → le
     → Wrote (number limits) word w → Wrote (component limits 12 driven) (largest inputs outputs word) (largestComponent inputs outputs w)
 unfolding component
 wrote-largest driven inputs outputs word w four hi ho o8 small h =
-    wrote-bind _ (wrote-between limits _ _ _ refl (wrote-byte 32 (omega arith)))
+    wrote-bind _ (wrote-between limits _ _ _ refl (wrote-byte mostStates (omega arith)))
     (wrote-bind _ (wrote-between limits _ _ _ refl (wrote-byte 4 (omega arith)))
     (wrote-bind _ four-inputs
     (wrote-bind _ (wrote-between limits _ _ _ (is-true (leb 0 (length outputs) && leb (length outputs) 8) o8) (wrote-byte (length outputs) few))
     (wrote-bind _ (wrote-signals 12 (withAll driven inputs) 0 outputs ho)
     (wrote-bind _ (wrote-copies (λ (s : Done). between limits 0 (2 ^ length outputs - 1) 6) (λ s a. s) (λ s. Unit {0}) word w
-    (λ s u. (wrote-between limits _ _ _ (is-true (leb 0 w && leb w (2 ^ length outputs - 1)) small) h, tt)) 32 done tt)
-    (wrote-map (λ nexts. record { states = 32; inputs = inputs; outputs = outputs; outs = replicate 32 w; nexts = nexts })
-    (wrote-copies (λ (s : Done). between limits 1 (2 ^ 32 - 1) 6) (λ s a. s) (λ s. Unit {0}) setBytes (2 ^ 31)
-    (λ s u. (wrote-between limits _ _ _ refl wrote-set, tt)) 512 done tt)))))))
+    (λ s u. (wrote-between limits _ _ _ (is-true (leb 0 w && leb w (2 ^ length outputs - 1)) small) h, tt)) mostStates done tt)
+    (wrote-map (λ nexts. record { states = mostStates; inputs = inputs; outputs = outputs; outs = replicate mostStates w; nexts = nexts })
+    (wrote-copies (λ (s : Done). between limits 1 (2 ^ mostStates - 1) 6) (λ s a. s) (λ s. Unit {0}) setBytes lastSet
+    (λ s u. (wrote-between limits _ _ _ refl wrote-set, tt)) mostNexts done tt)))))))
   where
     few : length outputs < 128
     few = omega (arith, leb→le (length outputs) 8 (and-r (leb 0 (length outputs)) (leb (length outputs) 8) o8))

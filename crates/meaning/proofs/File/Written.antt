@@ -5,7 +5,7 @@ use mathlib.Core.List.{List, [], _++_, _∷_, append-assoc}
 use lib.Dec.{T, leb, lt→ltb, ltb, ltb→lt}
 use lib.ListN.{drop, length, length-append, replicate}
 use native.Mathlib.Omega.{arith}
-use Prim.Native.Nat.{_%_, _+_, _<_, suc, zero, ℕ}
+use Prim.Native.Nat.{_%_, _+_, _-_, _<_, suc, zero, ℕ}
 use Rattle.words.specs.Sets.{has}
 use Rattle.meaning.specs.File.Grammar.{Limits, between, lessThan, limits, named, number, signal}
 use Rattle.meaning.specs.File.Number.{choose, groups, withHigher}
@@ -136,7 +136,7 @@ unfolding groups
 wrote-byte v l =
     wrote-number limits (v ∷ []) v (λ rest at.
     let e : suc at ≡ at + 1 = omega arith in
-    ap (λ t. choose t (found v (suc at)) (withHigher (v % 128) (groups 15 3 rest (suc at)))) (is-true (ltb v 128) (lt→ltb v 128 l))
+    ap (λ t. choose t (found v (suc at)) (withHigher (v % 128) (groups (limits .lastGroup) (limits .groupsBefore - 1) rest (suc at)))) (is-true (ltb v 128) (lt→ltb v 128 l))
     ∙ ap (λ n. found v n) e)
 
 -- signals of one byte each, in order and free

@@ -24,20 +24,33 @@ pub record Limits : Type 0 where
   pub nodes : ℕ
   pub starts : ℕ
 
--- document 01's
+-- document 01's, the width and the states as 12/14 of document 02 has them
 abbrev pub limits : Limits
 limits =
     record {
-      lastGroup = 15;
-      groupsBefore = 4;
+      lastGroup = 1;
+      groupsBefore = 9;
       components = 4;
       signals = 12;
-      states = 32;
+      states = 64;
       inputs = 4;
       outputs = 8;
       nodes = 24;
       starts = 64;
     }
+
+-- so many states and successor sets a component may have; and so many output words and successor sets four of them together
+abbrev pub mostStates : ℕ
+mostStates = limits .states
+
+abbrev pub mostNexts : ℕ
+mostNexts = mostStates * 2 ^ limits .inputs
+
+abbrev pub allOuts : ℕ
+allOuts = limits .components * mostStates
+
+abbrev pub allNexts : ℕ
+allNexts = limits .components * mostNexts
 
 -- a component's stretch of the file
 pub record Component : Type 0 where

@@ -62,8 +62,8 @@ pub record Promised (L : Limits) (c : Contents) : Type 0 where
 
 -- the listing program reads at most so many bytes, which settles every longer input too (proofs/File/Limit)
 abbrev pub listingBytes : ℕ
-listingBytes = 16385
+listingBytes = 49153
 
 -- a good file has at most so many bytes, and one has that many (proofs/File/Longest, LongestFile)
 abbrev pub longestFile : ℕ
-longestFile = 10771
+longestFile = 41651

@@ -5,14 +5,14 @@ use Rattle.partitions.proofs.all_classes.Tie as tie
 
 lent-classes-requires : tie.Need-lent-classes-requires
 lent-classes-requires c κs =
-    let m = c .before .before .before .before .before .before .before in
-    let (k, d) = m .before .before .before .before .before .before .before .before .before .before .before .before .pre in
+    let m = c .before .before .before .before .before in
+    let (k, d) = m .before .before .before .before .before .before .before .before .before .before .before .pre in
     (_, k, record { describes = d; marked = m .lent-marks .ensures _ k d (lent-all _) }, lent-all _)
 
 returns : tie.Need-returns
 returns c =
     λ k d.
-    let m = c .before .before .before .before .before .before .before .before in
+    let m = c .before .before .before .before .before .before in
     c .lent-classes .ensures _ k (record { describes = d; marked = m .lent-marks .ensures _ k d (lent-all _) }) (lent-all _)
 
 pub all-classes-spec : {M : Type 1} → statement M

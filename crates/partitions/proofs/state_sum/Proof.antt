@@ -1,5 +1,6 @@
 use native.Mathlib.Omega.{arith}
 use Prim.Native.Nat.{_-_}
+use Rattle.instrument.specs.Outline.{whole}
 use Rattle.instrument.proofs.Bounds.{count-bounds, states-bounds}
 use Rattle.partitions.specs.Progress.{Summing}
 use Rattle.partitions.proofs.Summing.{summing-start, summing-more, summing-end}
@@ -13,28 +14,28 @@ abbrev μ-loop : tie.MeasureT-loop
 μ-loop t n sum₀ c₀ sum c = t .components - c
 
 cast-n : tie.Need-cast-n Inv-loop μ-loop
-cast-n c = let (k, d) = c .pre in omega (arith, count-bounds (c .args .t1) k d .1)
+cast-n c = let (ns, k, d) = c .pre in omega (arith, count-bounds (whole (c .args .t1) ns) k d .1)
 
 loop-holds : tie.Need-loop-holds Inv-loop μ-loop
 loop-holds c = summing-start (c .args .t1)
 
 mul-sum : tie.Need-mul-sum Inv-loop μ-loop
-mul-sum c = let s = c .before .before in let (k, d) = s .pre in omega (arith, count-bounds (s .args .t1) k d .1)
+mul-sum c = let s = c .before .before in let (ns, k, d) = s .pre in omega (arith, count-bounds (whole (s .args .t1) ns) k d .1)
 
 element-copy-out-sum : tie.Need-element-copy-out-sum Inv-loop μ-loop
-element-copy-out-sum c = let s = c .before .before in let (k, d) = s .pre in omega (arith, count-bounds (s .args .t1) k d .1)
+element-copy-out-sum c = let s = c .before .before in let (ns, k, d) = s .pre in omega (arith, count-bounds (whole (s .args .t1) ns) k d .1)
 
 cast-sum : tie.Need-cast-sum Inv-loop μ-loop
 cast-sum c =
     let m = c .before .before in
-    let (k, d) = m .before .pre in
-    omega (arith, states-bounds (m .before .args .t1) k d (m .loop .c) (omega arith) .1)
+    let (ns, k, d) = m .before .pre in
+    omega (arith, states-bounds (whole (m .before .args .t1) ns) k d (m .loop .c) (omega arith) .1)
 
 add-sum : tie.Need-add-sum Inv-loop μ-loop
 add-sum c =
     let m = c .before .before in
-    let (k, d) = m .before .pre in
-    omega (arith, m .loop .inv .few, states-bounds (m .before .args .t1) k d (m .loop .c) (omega arith) .1, count-bounds (m .before .args .t1) k d .1)
+    let (ns, k, d) = m .before .pre in
+    omega (arith, m .loop .inv .few, states-bounds (whole (m .before .args .t1) ns) k d (m .loop .c) (omega arith) .1, count-bounds (whole (m .before .args .t1) ns) k d .1)
 
 add-c : tie.Need-add-c Inv-loop μ-loop
 add-c c = omega arith
@@ -45,8 +46,8 @@ loop-less c = omega arith
 loop-again : tie.Need-loop-again Inv-loop μ-loop
 loop-again c =
     let m = c .before .before in
-    let (k, d) = m .before .pre in
-    summing-more (m .before .args .t1) k d (m .loop .c) (m .loop .sum) (omega arith) (m .loop .inv)
+    let (ns, k, d) = m .before .pre in
+    summing-more (m .before .args .t1) ns k d (m .loop .c) (m .loop .sum) (omega arith) (m .loop .inv)
 
 returns : tie.Need-returns Inv-loop μ-loop
 returns c =

@@ -1,8 +1,8 @@
 use mathlib.Core.Path.{sym}
 use native.Mathlib.Omega.{arith}
 use borrow.Author.Needs.{needs}
-use Rattle.text.proofs.Texts.{put-none, put-more, put-length, put-same, digits-none, digits-low, digits-high, digits-length}
-use Prim.Native.Nat.{ℕ, _-_, _/_, _<_}
+use Rattle.text.proofs.Texts.{put-none, put-more, put-length, put-same, digits-none, digits-low, digits-high, low-length, high-length}
+use Prim.Native.Nat.{ℕ, _<_}
 use borrow.Fn.Kinds.{In}
 use borrow.Fn.PlainCycle.{Measures, is, falls, and}
 use Rattle.text.proofs.digits.Reads as digits
@@ -57,7 +57,9 @@ digits-byte-requires : (t : ℕ) → digits-lts.Need-byte-requires (
   digits-below t,
   digits.Post,
 ) (digits-at t) digits.Post
-digits-byte-requires t c κs = search needs
+digits-byte-requires t c κs =
+    let a = c .before .before .before .before .args in
+    omega (arith, c .before .before .before .before .pre .1 .1 .fits, low-length (a .places) (a .v) (omega arith) (omega arith))
 
 -- src/lib.rt:67:9
 digits-same-length : (t : ℕ) → digits-lts.Need-same-length (
@@ -95,7 +97,9 @@ digits-digits-requires : (t : ℕ) → digits-lts.Need-digits-requires (
   digits-below t,
   digits.Post,
 ) (digits-at t) digits.Post
-digits-digits-requires t c κs = (omega arith, (omega arith, omega arith))
+digits-digits-requires t c κs =
+    let a = c .before .before .before .before .args in
+    (omega arith, (omega arith, record { fits = omega (arith, c .before .before .before .before .pre .1 .1 .fits, high-length (a .places) (a .v) (omega arith) (omega arith)) }))
 
 -- src/lib.rt:70:5
 digits-byte-requires-2 : (t : ℕ) → digits-lts.Need-byte-requires-2 (
@@ -107,7 +111,7 @@ digits-byte-requires-2 : (t : ℕ) → digits-lts.Need-byte-requires-2 (
 digits-byte-requires-2 t c κs =
     let a = c .before .before .before .before .before .before .before .before .args in
     let d = c .before .before .before .digits .ensures in
-    omega (arith, d .after, put-length d, digits-length (a .places - 1) (a .v / 10))
+    omega (arith, c .before .before .before .before .before .before .before .before .pre .1 .1 .fits, d .after, put-length d, high-length (a .places) (a .v) (omega arith) (omega arith))
 
 -- src/lib.rt:58:1
 digits-same-length-2 : (t : ℕ) → digits-lts.Need-same-length-2 (

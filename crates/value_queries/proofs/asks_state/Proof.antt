@@ -1,50 +1,31 @@
-use Rattle.value_queries.proofs.Telling.{four-tests, inside}
+use Rattle.value_queries.proofs.Telling.{four-tests, inside, inside-by}
+use mathlib.Core.Path.{_∙_}
+use Rattle.instrument.specs.Outline.{whole}
 use borrow.Author.Needs.{needs}
 use Rattle.value_queries.proofs.asks_state.Statement.{statement}
 use Rattle.value_queries.proofs.asks_state.Tie as tie
 
-array-read-in-component : tie.Need-array-read-in-component
-array-read-in-component c = search needs
-
-in-component-requires : tie.Need-in-component-requires
-in-component-requires c κs = search needs
-
-array-read-in-component-2 : tie.Need-array-read-in-component-2
-array-read-in-component-2 c = search needs
-
-in-component-requires-2 : tie.Need-in-component-requires-2
-in-component-requires-2 c κs = search needs
-
-array-read-in-component-3 : tie.Need-array-read-in-component-3
-array-read-in-component-3 c = search needs
-
-in-component-requires-3 : tie.Need-in-component-requires-3
-in-component-requires-3 c κs = search needs
-
-array-read-in-component-4 : tie.Need-array-read-in-component-4
-array-read-in-component-4 c = search needs
-
-in-component-requires-4 : tie.Need-in-component-requires-4
-in-component-requires-4 c κs = search needs
-
 returns : tie.Need-returns
 returns c =
-    λ k d.
+    λ nexts k d.
     let e = c .before in
     let b = e .before .before in
-    four-tests (λ i. inside (b .before .args .t) k d (b .before .args .t2) i) _ _ _ _ (b .in-component .ensures k d) (e .before .in-component2 .ensures k d)
-    (e .in-component3 .ensures k d) (c .in-component4 .ensures k d)
+    let a = b .before .before .before .args in
+    let same = inside-by (whole (a .t) nexts) k d (a .t2) in
+    four-tests (inside (whole (a .t) nexts) k d (a .t2)) _ _ _ _ (b .in-component .ensures ∙ same 0) (e .before .in-component2 .ensures ∙ same 1)
+    (e .in-component3 .ensures ∙ same 2) (c .in-component4 .ensures ∙ same 3)
 
 pub asks-state-spec : {M : Type 1} → statement M
 asks-state-spec =
     tie.close
     (tie.spec
-    array-read-in-component
-    in-component-requires
-    array-read-in-component-2
-    in-component-requires-2
-    array-read-in-component-3
-    in-component-requires-3
-    array-read-in-component-4
-    in-component-requires-4
+    (λ c. search needs)
+    (λ c. search needs)
+    (λ c κs. search needs)
+    (λ c. search needs)
+    (λ c κs. search needs)
+    (λ c. search needs)
+    (λ c κs. search needs)
+    (λ c. search needs)
+    (λ c κs. search needs)
     returns)

@@ -15,11 +15,12 @@ slice-aggregate-root-bit c = search needs
 root-bit-requires : tie.Need-root-bit-requires
 root-bit-requires c κs =
     let m = c .before .before in
-    let (k, p, l) = m .before .before .pre .0 in
-    ((k, ready _ _ k (p .describes) (p .named) _ _ (m .write-merged .ensures k p)), m .before .before .pre .1)
+    let s = m .before .before .before in
+    let (k, p, l) = s .pre .0 in
+    (_, k, ready _ _ k (p .describes) (p .named) _ _ (m .write-merged .ensures k p), s .pre .1)
 
 returns : tie.Need-returns
-returns c = λ k p. c .root-bit .ensures k (ready _ _ k (p .describes) (p .named) _ _ (c .before .before .before .write-merged .ensures k p))
+returns c = λ k p. c .root-bit .ensures _ k (ready _ _ k (p .describes) (p .named) _ _ (c .before .before .before .write-merged .ensures k p))
 
 pub bit-of-spec : {M : Type 1} → statement M
 bit-of-spec =

@@ -1,27 +1,15 @@
+use mathlib.Core.Path.{refl}
 use native.Mathlib.Omega.{arith}
-use Rattle.value_queries.proofs.Telling.{in-own, in-past}
+use borrow.Author.Tests.{lt-ltb, le-ltb}
 use borrow.Author.Needs.{needs}
 use Rattle.value_queries.proofs.in_component.Statement.{statement}
 use Rattle.value_queries.proofs.in_component.Tie as tie
 
-cast-if1 : tie.Need-cast-if1
-cast-if1 c = search needs
-
-mul-result : tie.Need-mul-result
-mul-result c = search needs
-
-element-copy-out-result : tie.Need-element-copy-out-result
-element-copy-out-result c = search needs
-
-cast-result : tie.Need-cast-result
-cast-result c = search needs
-
 returns : tie.Need-returns
-returns c = λ k d. let a = c .before .before .args in in-own (a .t1) k d (a .i) (a .x) (omega arith)
+returns c = let a = c .before .args in rw (lt-ltb (a .i) (a .n) (omega arith)) refl
 
 returns-2 : tie.Need-returns-2
-returns-2 c = λ k d. let a = c .before .args in in-past (a .t1) k d (a .i) (a .x) (omega arith)
+returns-2 c = let a = c .before .args in rw (le-ltb (a .i) (a .n) (omega arith)) refl
 
 pub in-component-spec : {M : Type 1} → statement M
-in-component-spec =
-    tie.close (tie.spec cast-if1 mul-result element-copy-out-result cast-result returns returns-2)
+in-component-spec = tie.close (tie.spec (λ c. search needs) (λ c. search needs) (λ c. search needs) returns returns-2)

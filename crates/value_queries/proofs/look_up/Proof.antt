@@ -1,5 +1,6 @@
 use native.Mathlib.Omega.{arith}
 use Rattle.meaning.specs.File.Grammar.{instrumentOf}
+use Rattle.instrument.specs.Outline.{whole}
 use Rattle.merged_words.proofs.Tables.{size-named}
 use Rattle.value_queries.proofs.Telling.{looked-large, looked}
 use borrow.Author.Needs.{needs}
@@ -11,33 +12,35 @@ all-marks-requires c κs = search needs
 
 marked-classes-requires : tie.Need-marked-classes-requires
 marked-classes-requires c κs =
-    let (k, d) = c .before .pre .0 in
+    let (k, d) = c .before .before .pre .0 in
     (k, record { describes = d; marked = c .all-marks .ensures k d })
 
 merged-count-requires : tie.Need-merged-count-requires
-merged-count-requires c κs = search needs
+merged-count-requires c κs = let (k, d) = c .before .before .before .pre .0 in (_, k, d)
 
 returns : tie.Need-returns
 returns c =
     λ k d a.
     let n = c .before in
     let m = n .before .before in
+    let s = m .before .before in
     let e = n .before .marked-classes .ensures k (record { describes = d; marked = m .all-marks .ensures k d }) in
-    looked-large (instrumentOf k) (m .before .args .states) a
-    (omega (arith, n .merged-count .ensures k d, size-named (m .before .args .t) k d (n .before .marked-classes .result) e))
+    looked-large (instrumentOf k) (s .args .states) a
+    (omega (arith, n .merged-count .ensures _ k d, size-named (whole (s .args .t) (s .args .nexts .now)) k d (n .before .marked-classes .result) e))
 
 bit-of-requires : tie.Need-bit-of-requires
 bit-of-requires c κs =
     let n = c .before in
     let m = n .before .before in
-    let (k, d) = m .before .pre .0 in
+    let s = m .before .before in
+    let (k, d) = s .pre .0 in
     let e = n .before .marked-classes .ensures k (record { describes = d; marked = m .all-marks .ensures k d }) in (
       (
         k,
         record { describes = d; marked = m .all-marks .ensures k d; named = e },
-        omega (arith, n .merged-count .ensures k d, size-named (m .before .args .t) k d (n .before .marked-classes .result) e),
+        omega (arith, n .merged-count .ensures _ k d, size-named (whole (s .args .t) (s .args .nexts .now)) k d (n .before .marked-classes .result) e),
       ),
-      m .before .pre .1,
+      s .pre .1,
     )
 
 returns-2 : tie.Need-returns-2
@@ -45,9 +48,10 @@ returns-2 c =
     λ k d a.
     let n = c .before .before in
     let m = n .before .before in
+    let s = m .before .before in
     let e = n .before .marked-classes .ensures k (record { describes = d; marked = m .all-marks .ensures k d }) in
-    looked (instrumentOf k) (m .before .args .states) a
-    (omega (arith, n .merged-count .ensures k d, size-named (m .before .args .t) k d (n .before .marked-classes .result) e)) (c .bit-of .result)
+    looked (instrumentOf k) (s .args .states) a
+    (omega (arith, n .merged-count .ensures _ k d, size-named (whole (s .args .t) (s .args .nexts .now)) k d (n .before .marked-classes .result) e)) (c .bit-of .result)
     (c .bit-of .ensures k (record { describes = d; marked = m .all-marks .ensures k d; named = e }))
 
 pub look-up-spec : {M : Type 1} → statement M

@@ -3,6 +3,7 @@ use mathlib.Core.Path.{_≡_, sym, _∙_}
 use native.Mathlib.Omega.{arith}
 use borrow.Author.Needs.{needs}
 use Rattle.answers.specs.Listing.{listingOutcome}
+use Rattle.answer_text.specs.Settled.{textBytes}
 use Rattle.answer_text.proofs.Outcomes.{refused-text, refused-kept, entered-made}
 use Rattle.answer_text.proofs.Texts.{listing-text, listing-numbered}
 use Rattle.answer_text.proofs.Buffers.{made-same, made-over}
@@ -10,7 +11,7 @@ use Rattle.answer_text.proofs.entries.listing.Statement.{statement}
 use Rattle.answer_text.proofs.entries.listing.Tie as tie
 
 -- the buffer's length
-room : (c : tie.After-listing-arg) → length (c .before .before .args .out .now) ≡ 45057
+room : (c : tie.After-listing-arg) → length (c .before .before .args .out .now) ≡ textBytes
 room c = search needs
 
 returns : tie.Need-returns

@@ -1,10 +1,12 @@
-use lib.ListN.{length, length-take}
+use lib.ListN.{length, drop, take, length-take}
 use mathlib.Core.Path.{_≡_, sym, _∙_}
 use native.Mathlib.Omega.{arith}
 use Prim.Native.Nat.{_-_}
 use borrow.Author.Needs.{needs}
 use Rattle.answers.specs.Outcomes.{mergedOutcome}
 use Rattle.answers.specs.Lines.{wordsLine}
+use Rattle.answer_text.specs.Settled.{textBytes}
+use Rattle.lines.proofs.Lengths.{words-short}
 use Rattle.answer_text.proofs.Outcomes.{refused-text, entered}
 use Rattle.answer_text.proofs.Texts.{merged-text, merged-numbered}
 use Rattle.answer_text.proofs.Buffers.{made-same}
@@ -24,8 +26,8 @@ words-line-requires c κs =
     let q = n .before .before .before in
     let words = q .merged-words .last .1 .0 in
     let long : length words ≡ 4096 = search needs in
-    let room : length (q .before .before .before .args .out .now) ≡ 45057 = search needs in
-    omega (arith, long, room, length-take (n .n .given .0 .0 - 0) words)
+    let room : length (q .before .before .before .args .out .now) ≡ textBytes = search needs in
+    record { fits = omega (arith, long, room, words-short (take (n .n .given .0 .0 - 0) (drop 0 words)), length-take (n .n .given .0 .0 - 0) (drop 0 words)) }
 
 returns : tie.Need-returns
 returns c =

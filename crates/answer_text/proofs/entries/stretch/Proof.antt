@@ -7,6 +7,8 @@ use Rattle.meaning.specs.File.Stretches.{located}
 use Rattle.answers.specs.Lines.{hexadecimalLine}
 use Rattle.reader.specs.Outcomes.{faultNumber}
 use Rattle.stretch_query.specs.Components.{askedNumber}
+use Rattle.lines.proofs.Lengths.{hexadecimal-length}
+use Rattle.answer_text.specs.Settled.{textBytes}
 use Rattle.answer_text.proofs.Texts.{stretch-refused, stretch-given, stretch-short}
 use Rattle.answer_text.proofs.Buffers.{made-same}
 use Rattle.answer_text.proofs.entries.stretch.Statement.{statement}
@@ -18,7 +20,7 @@ fine : (c : tie.After-enum-told) → let q = c .before .before in
 fine c = ap askedNumber (sym (c .enum-told .given .1)) ∙ c .before .before .component-refusal .ensures
 
 -- the buffer's length
-room : (c : tie.After-hexadecimal-line-arg) → length (c .before .before .before .before .before .before .args .out .now) ≡ 45057
+room : (c : tie.After-hexadecimal-line-arg) → length (c .before .before .before .before .before .before .args .out .now) ≡ textBytes
 room c = search needs
 
 hexadecimal-line-requires : tie.Need-hexadecimal-line-requires
@@ -26,7 +28,8 @@ hexadecimal-line-requires c κs =
     let b = c .before in
     let e = b .before in
     let s = e .before .before .before .before in
-    omega (arith, room c, stretch-short (s .args .file .now) (s .args .c) (b .component-bytes .result .now) (b .component-bytes .ensures .0))
+    let bytes = b .component-bytes .result .now in
+    record { fits = omega (arith, room c, hexadecimal-length bytes, stretch-short (s .args .file .now) (s .args .c) bytes (b .component-bytes .ensures .0)) }
 
 returns : tie.Need-returns
 returns c =

@@ -6,6 +6,7 @@ use Rattle.words.specs.Sets as sets
 use Rattle.words.proofs.Members.{has-lt}
 use Rattle.words.proofs.Passing.{passing-less, passing-next}
 use Rattle.meaning.specs.StepWords as component
+use Rattle.state_words.specs.Width.{stateBits}
 use Rattle.classes.specs.Loops.{Sifting}
 use Rattle.classes.proofs.Component.{within}
 use Rattle.classes.proofs.Members.{sifting-start, sifting-more, sifting-end, sifting-none, cut-subset}
@@ -22,7 +23,7 @@ abbrev μ-loop : tie.MeasureT-loop
 returns : tie.Need-returns Inv-loop μ-loop
 returns c =
     let s = c .before .before .before in
-    sifting-none _ _ _ (s .pre .2) (λ t. cut-subset 32 _ _ _ (s .fits .live .fits) (subst T (sym (c .if1 .taken) ∙ c .before .subset .ensures) tt))
+    sifting-none _ _ _ (s .pre .2) (λ t. cut-subset stateBits _ _ _ (s .fits .live .fits) (subst T (sym (c .if1 .taken) ∙ c .before .subset .ensures) tt))
 
 -- the lowest is a state
 low : (c : tie.After-lowest Inv-loop μ-loop) → c .lowest .result < c .before .before .before .before .before .before .args .states
@@ -30,13 +31,13 @@ low c =
     let l = c .before .before in
     let s = l .before .before .before .before in
     rw (c .lowest .ensures)
-    (has-lt _ _ _ (s .pre .2) (passing-next 32 (l .loop .inv .passing) (s .fits .among .fits) (c .before .loop-test .taken)))
+    (has-lt _ _ _ (s .pre .2) (passing-next stateBits (l .loop .inv .passing) (s .fits .among .fits) (c .before .loop-test .taken)))
 
 loop-less : tie.Need-loop-less Inv-loop μ-loop
 loop-less c =
     let t = c .before .before .before .before .before .before in
     let l = t .before in
-    passing-less 32 (l .loop .inv .passing) (l .before .before .before .before .fits .among .fits) (t .loop-test .taken) (c .without-lowest .ensures)
+    passing-less stateBits (l .loop .inv .passing) (l .before .before .before .before .fits .among .fits) (t .loop-test .taken) (c .without-lowest .ensures)
 
 loop-again : tie.Need-loop-again Inv-loop μ-loop
 loop-again c =
@@ -44,7 +45,7 @@ loop-again c =
     let i = k .before .before in
     let w = i .before .before in
     let l = w .before .before in
-    sifting-more 32 (l .loop .inv) (l .before .before .before .before .fits .among .fits) (w .before .loop-test .taken) (c .without-lowest .ensures)
+    sifting-more stateBits (l .loop .inv) (l .before .before .before .before .fits .among .fits) (w .before .loop-test .taken) (c .without-lowest .ensures)
     (k .before .subset2 .result) (k .before .subset2 .ensures ∙ rw (i .intersection .ensures, i .before .successors .ensures, w .lowest .ensures))
     (k .keep .ensures ∙ rw (w .lowest .ensures))
 
@@ -63,7 +64,6 @@ covered-spec =
     returns
     (λ c. sifting-start _ _)
     (λ c κs. tt)
-    (λ c. omega arith)
     (λ c κs.
     let p = c .before .before .before .before .before .before .pre in
     (p .0 .most-inputs, within (p .0) _ _ (low c) (p .1)))

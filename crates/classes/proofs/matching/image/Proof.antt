@@ -2,6 +2,7 @@ use mathlib.Core.Path.{_∙_}
 use native.Mathlib.Omega.{arith}
 use Prim.Native.Nat.{_<_}
 use Rattle.words.proofs.Passing.{passing-lowest, passing-less}
+use Rattle.state_words.specs.Width.{stateBits}
 use Rattle.classes.specs.Loops.{Joining}
 use Rattle.classes.proofs.Members.{joining-start, joining-more, joining-end}
 use Rattle.classes.proofs.matching.image.Statement.{statement}
@@ -13,25 +14,26 @@ Inv-loop r states w result₀ rest₀ result rest = Joining w r result rest
 abbrev μ-loop : tie.MeasureT-loop
 μ-loop r states w result₀ rest₀ result rest = rest
 
--- the lowest member is below 32
-low : (c : tie.After-lowest Inv-loop μ-loop) → c .lowest .result < 32
+-- the lowest member is below the width
+low : (c : tie.After-lowest Inv-loop μ-loop) → c .lowest .result < stateBits
 low c =
     let l = c .before .before in
-    omega (arith, c .lowest .ensures, passing-lowest 32 (l .loop .inv .passing) (l .before .fits .w .fits) (c .before .loop-test .taken) .inside)
+    omega (arith, c .lowest .ensures, passing-lowest stateBits (l .loop .inv .passing) (l .before .fits .w .fits) (c .before .loop-test .taken) .inside)
 
 loop-less : tie.Need-loop-less Inv-loop μ-loop
 loop-less c =
-    let t = c .before .before .before .before in
+    let w = c .before .before in
+    let t = w .before .before in
     let l = t .before in
-    passing-less 32 (l .loop .inv .passing) (l .before .fits .w .fits) (t .loop-test .taken) (c .without-lowest .ensures)
+    passing-less stateBits (l .loop .inv .passing) (l .before .fits .w .fits) (t .loop-test .taken) (w .without-lowest .ensures)
 
 loop-again : tie.Need-loop-again Inv-loop μ-loop
 loop-again c =
-    let u = c .before in
-    let t = u .before .before .before in
+    let w = c .before .before in
+    let t = w .before .before in
     let l = t .before in
-    joining-more 32 (l .loop .inv) (l .before .fits .w .fits) (t .loop-test .taken)
-    (u .union .ensures ∙ rw (u .before .before .lowest .ensures)) (c .without-lowest .ensures)
+    joining-more stateBits (l .loop .inv) (l .before .fits .w .fits) (t .loop-test .taken) (c .union .ensures ∙ rw (w .before .lowest .ensures))
+    (w .without-lowest .ensures)
 
 returns : tie.Need-returns Inv-loop μ-loop
 returns c =
@@ -47,14 +49,12 @@ image-spec =
     μ-loop
     (λ c. joining-start _ _)
     (λ c κs. tt)
-    (λ c. omega (arith, low c))
-    (λ c. omega (arith, low c))
-    (λ c. omega (arith, low c))
-    (λ c κs. tt)
     (λ c κs. omega arith)
+    (λ c. omega (arith, low (c .before)))
+    (λ c. omega (arith, low (c .before)))
+    (λ c κs. tt)
     loop-less
     loop-again
-    (λ c. omega arith)
     (λ c κs. omega arith)
     (λ c κs. tt)
     returns)

@@ -56,7 +56,6 @@ matched-row-spec =
     (tie.spec
     Inv-loop
     μ-loop
-    (λ c. omega (arith, c .before .pre .0 .most-states))
     (λ c κs. c .before .pre .0 .most-states)
     (λ c. omega arith)
     loop-holds

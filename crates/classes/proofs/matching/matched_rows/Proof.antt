@@ -13,26 +13,27 @@ use Rattle.classes.proofs.matching.matched_rows.Statement.{statement}
 use Rattle.classes.proofs.matching.matched_rows.Tie as tie
 
 abbrev Inv-loop : tie.InvT-loop
-Inv-loop succ states inputs fail r all result₀ x₀ result x =
+Inv-loop succ states inputs r fail all result₀ x₀ result x =
     Filling states (λ x. built states (λ y. rel r x y && matching.matchedBy states inputs succ r fail x y)) result x
 
 abbrev μ-loop : tie.MeasureT-loop
-μ-loop succ states inputs fail r all result₀ x₀ result x = states - x
+μ-loop succ states inputs r fail all result₀ x₀ result x = states - x
 
 matched-row-requires : tie.Need-matched-row-requires Inv-loop μ-loop
 matched-row-requires c κs =
-    let i = c .before in
-    let l = i .before .before in (
+    let t = c .before .before in
+    let l = t .before in (
       l .before .before .before .pre,
-      i .before .loop-test .taken,
-      rw (i .intersection .ensures, l .before .below .ensures) (cut-narrow _ _),
+      t .loop-test .taken,
+      rw (c .intersection .ensures, l .before .below .ensures) (cut-narrow _ _),
     )
 
 loop-again : tie.Need-loop-again Inv-loop μ-loop
 loop-again c =
-    let i = c .before .before in
-    let l = i .before .before in
-    filling-more (l .loop .inv) (l .before .before .before .pre .most-states) (i .before .loop-test .taken)
+    let i = c .before in
+    let t = i .before .before in
+    let l = t .before in
+    filling-more (l .loop .inv) (l .before .before .before .pre .most-states) (t .loop-test .taken)
     (c .matched-row .ensures ∙ rw (i .intersection .ensures, l .before .below .ensures) (cut-test _ _ _))
 
 returns : tie.Need-returns Inv-loop μ-loop
@@ -45,11 +46,10 @@ matched-rows-spec =
     (tie.spec
     Inv-loop
     μ-loop
-    (λ c. omega (arith, c .before .pre .most-states))
     (λ c κs. c .before .pre .most-states)
     (λ c. filling-none _ _)
     (λ c. omega arith)
-    (λ c. let m = c .before .before .before .before .pre .most-states in search needs)
+    (λ c. omega (arith, c .before .before .before .before .pre .most-states))
     (λ c κs. tt)
     matched-row-requires
     (λ c. omega arith)

@@ -2,9 +2,6 @@ use borrow.Author.Needs.{needs}
 use Rattle.classes.proofs.relation.put.Statement.{statement}
 use Rattle.classes.proofs.relation.put.Tie as tie
 
-cast-insert : tie.Need-cast-insert
-cast-insert c = search needs
-
 insert-requires : tie.Need-insert-requires
 insert-requires c κs = search needs
 
@@ -15,4 +12,4 @@ returns-2 : tie.Need-returns-2
 returns-2 c = search needs
 
 pub put-spec : {M : Type 1} → statement M
-put-spec = tie.close (tie.spec cast-insert insert-requires returns returns-2)
+put-spec = tie.close (tie.spec insert-requires returns returns-2)

@@ -3,6 +3,7 @@ use native.Mathlib.Omega.{arith}
 use Prim.Native.Nat.{_-_}
 use borrow.Author.Needs.{needs}
 use Rattle.words.proofs.Built.{built-below}
+use Rattle.meaning.specs.File.Grammar.{mostStates}
 use Rattle.classes.specs.Loops.{Filling}
 use Rattle.classes.specs.Related as related
 use Rattle.classes.specs.Rows.{rows}
@@ -16,9 +17,6 @@ Inv-loop states all result₀ x₀ result x = Filling states (λ z. all) result 
 
 abbrev μ-loop : tie.MeasureT-loop
 μ-loop states all result₀ x₀ result x = states - x
-
-cast-below : tie.Need-cast-below Inv-loop μ-loop
-cast-below c = omega arith
 
 below-requires : tie.Need-below-requires Inv-loop μ-loop
 below-requires c κs = omega arith
@@ -45,7 +43,7 @@ returns : tie.Need-returns Inv-loop μ-loop
 unfolding related.relatedAll rows
 returns c =
     filling-end (c .before .loop .inv) (c .loop-test .left)
-    ∙ padded-same 32 _ _ _ (c .before .before .before .pre) (λ z l. c .before .before .below .ensures ∙ sym (built-below _))
+    ∙ padded-same mostStates _ _ _ (c .before .before .before .pre) (λ z l. c .before .before .below .ensures ∙ sym (built-below _))
 
 pub rel-all-spec : {M : Type 1} → statement M
 rel-all-spec =
@@ -53,7 +51,6 @@ rel-all-spec =
     (tie.spec
     Inv-loop
     μ-loop
-    cast-below
     below-requires
     loop-holds
     mul-result

@@ -13,13 +13,10 @@ use Rattle.classes.proofs.relation.rel_both.Statement.{statement}
 use Rattle.classes.proofs.relation.rel_both.Tie as tie
 
 abbrev Inv-loop : tie.InvT-loop
-Inv-loop states a b all result₀ x₀ result x = Filling states (λ x. built states (λ y. rel a x y && rel b x y)) result x
+Inv-loop a b states all result₀ x₀ result x = Filling states (λ x. built states (λ y. rel a x y && rel b x y)) result x
 
 abbrev μ-loop : tie.MeasureT-loop
-μ-loop states a b all result₀ x₀ result x = states - x
-
-cast-below : tie.Need-cast-below Inv-loop μ-loop
-cast-below c = omega arith
+μ-loop a b states all result₀ x₀ result x = states - x
 
 below-requires : tie.Need-below-requires Inv-loop μ-loop
 below-requires c κs = omega arith
@@ -30,14 +27,14 @@ loop-holds c = filling-none _ _
 mul-intersection : tie.Need-mul-intersection Inv-loop μ-loop
 mul-intersection c = omega arith
 
-array-read-intersection : tie.Need-array-read-intersection Inv-loop μ-loop
-array-read-intersection c = search needs
+element-copy-out-intersection : tie.Need-element-copy-out-intersection Inv-loop μ-loop
+element-copy-out-intersection c = omega arith
 
 mul-intersection-2 : tie.Need-mul-intersection-2 Inv-loop μ-loop
 mul-intersection-2 c = omega arith
 
-array-read-intersection-2 : tie.Need-array-read-intersection-2 Inv-loop μ-loop
-array-read-intersection-2 c = search needs
+element-copy-out-intersection-2 : tie.Need-element-copy-out-intersection-2 Inv-loop μ-loop
+element-copy-out-intersection-2 c = omega arith
 
 intersection-requires : tie.Need-intersection-requires Inv-loop μ-loop
 intersection-requires c κs = tt
@@ -59,8 +56,9 @@ loop-less c = omega arith
 
 loop-again : tie.Need-loop-again Inv-loop μ-loop
 loop-again c =
-    let l = c .before .before .before in
-    filling-more (l .loop .inv) (l .before .before .pre) (c .before .before .loop-test .taken)
+    let t = c .before .before .before .before in
+    let l = t .before in
+    filling-more (l .loop .inv) (l .before .before .pre) (t .loop-test .taken)
     (c .intersection2 .ensures ∙ rw (l .before .below .ensures, c .before .intersection .ensures) (both-row _ _ _))
 
 returns : tie.Need-returns Inv-loop μ-loop
@@ -73,13 +71,12 @@ rel-both-spec =
     (tie.spec
     Inv-loop
     μ-loop
-    cast-below
     below-requires
     loop-holds
     mul-intersection
-    array-read-intersection
+    element-copy-out-intersection
     mul-intersection-2
-    array-read-intersection-2
+    element-copy-out-intersection-2
     intersection-requires
     intersection-requires-2
     mul-result

@@ -21,9 +21,6 @@ abbrev μ-loop : tie.MeasureT-loop
 level-word-requires : tie.Need-level-word-requires Inv-loop μ-loop
 level-word-requires c κs = c .before .pre
 
-cast-complement : tie.Need-cast-complement Inv-loop μ-loop
-cast-complement c = omega arith
-
 complement-requires : tie.Need-complement-requires Inv-loop μ-loop
 complement-requires c κs = omega arith
 
@@ -74,7 +71,6 @@ rel-level-spec =
     Inv-loop
     μ-loop
     level-word-requires
-    cast-complement
     complement-requires
     loop-holds
     mul-member

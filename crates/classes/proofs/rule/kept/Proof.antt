@@ -3,9 +3,6 @@ use Rattle.classes.proofs.Row.{kept-row}
 use Rattle.classes.proofs.rule.kept.Statement.{statement}
 use Rattle.classes.proofs.rule.kept.Tie as tie
 
-cast-t : tie.Need-cast-t
-cast-t c = search needs
-
 member-requires : tie.Need-member-requires
 member-requires c κs = search needs
 
@@ -23,9 +20,6 @@ union-requires c κs = search needs
 
 union-requires-2 : tie.Need-union-requires-2
 union-requires-2 c κs = search needs
-
-cast-below : tie.Need-cast-below
-cast-below c = search needs
 
 below-requires : tie.Need-below-requires
 below-requires c κs = search needs
@@ -58,14 +52,12 @@ pub kept-spec : {M : Type 1} → statement M
 kept-spec =
     tie.close
     (tie.spec
-    cast-t
     member-requires
     pick-requires
     member-requires-2
     pick-requires-2
     union-requires
     union-requires-2
-    cast-below
     below-requires
     intersection-requires
     intersection-requires-2

@@ -20,10 +20,12 @@ ruled-requires c κs = search needs
 
 returns : tie.Need-returns
 returns c =
-    let f = c .before .before in
-    let b = f .before .before in
-    ruled-ex _ _ _ _ (b .before .before .before .pre .0 .most-states) _ _ _ _ (b .matched-rows .ensures) (f .before .converse .ensures) (f .matched-rows2 .ensures)
-    (c .before .converse2 .ensures) (c .ruled .ensures)
+    let f = c .before .before .before in
+    let m = f .before .before in
+    let o = m .before .before in
+    let b = o .before in
+    ruled-ex _ _ _ _ (b .before .before .before .pre .0 .most-states) _ _ _ _ (b .matched-rows .ensures) (o .converse .ensures) (m .matched-rows2 .ensures)
+    (f .converse2 .ensures) (c .ruled .ensures)
 
 pub rel-ex-spec : {M : Type 1} → statement M
 rel-ex-spec =

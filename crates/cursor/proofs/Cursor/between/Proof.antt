@@ -1,47 +1,35 @@
+-- A number that was judged at its full width is at most hi, so it is one of 32 bits.
 use mathlib.Core.Path.{sym, ap, _∙_}
-use Rattle.cursor.specs.Answers.{got}
-use Rattle.cursor.proofs.Judged.{between-stopped, between-low, between-high, between-good}
+use native.Mathlib.Omega.{arith}
 use borrow.Author.Needs.{needs}
+use Rattle.cursor.specs.Answers.{gotWide}
+use Rattle.cursor.proofs.Judged.{between-le}
 use Rattle.cursor.proofs.Cursor.between.Statement.{statement}
 use Rattle.cursor.proofs.Cursor.between.Tie as tie
 
-number-requires : tie.Need-number-requires
-number-requires c κs = search needs
+wide-between-requires : tie.Need-wide-between-requires
+wide-between-requires c κs = search needs
 
-enum-known-earlier : tie.Need-enum-known-earlier
-enum-known-earlier c = search needs
+enum-known-r : tie.Need-enum-known-r
+enum-known-r c = search needs
 
 enum-known-v : tie.Need-enum-known-v
 enum-known-v c = search needs
 
+cast-t13 : tie.Need-cast-t13
+cast-t13 c =
+    let w = c .before .before .before .wide-between in
+    omega (
+      arith,
+      between-le _ _ _ _ _ _ _ (sym (w .ensures) ∙ ap gotWide (c .before .v .given .1)),
+      c .before .before .before .before .before .fits .hi .fits,
+    )
+
 returns : tie.Need-returns
-returns c =
-    let v = c .before .before in
-    sym (between-low _ _ _ _ _ _ _ (sym (v .before .before .number .ensures) ∙ ap got (v .v .given .1)) (c .if1 .taken))
+returns c = sym (ap gotWide (c .before .r .given .1)) ∙ c .before .before .before .wide-between .ensures
 
 returns-2 : tie.Need-returns-2
-returns-2 c =
-    let v = c .before .before .before in
-    sym (between-high _ _ _ _ _ _ _ (sym (v .before .before .number .ensures) ∙ ap got (v .v .given .1)) (c .before .if1 .left) (c .if2 .taken))
-
-returns-3 : tie.Need-returns-3
-returns-3 c =
-    let n = c .before in
-    sym (between-stopped _ _ _ _ _ _ (sym (n .before .before .number .ensures) ∙ ap got (n .earlier .given .1)))
-
-returns-4 : tie.Need-returns-4
-returns-4 c =
-    let v = c .before .before .before in
-    sym (between-good _ _ _ _ _ _ _ (sym (v .before .before .number .ensures) ∙ ap got (v .v .given .1)) (c .before .if1 .left) (c .if2 .left))
+returns-2 c = sym (ap gotWide (c .before .v .given .1)) ∙ c .before .before .before .wide-between .ensures
 
 pub between-spec : {M : Type 1} → statement M
-between-spec =
-    tie.close
-    (tie.spec
-    number-requires
-    enum-known-earlier
-    enum-known-v
-    returns
-    returns-2
-    returns-3
-    returns-4)
+between-spec = tie.close (tie.spec wide-between-requires enum-known-r enum-known-v cast-t13 returns returns-2)

@@ -1,6 +1,7 @@
 -- A group without the high bit is the whole number; else the groups are read one after the other.
 use mathlib.Core.Path.{sym}
 use native.Mathlib.Omega.{arith}
+use Rattle.meaning.specs.File.Grammar.{limits}
 use Rattle.cursor.proofs.Numbers.{ends}
 use borrow.Author.Needs.{needs}
 use Rattle.cursor.proofs.Cursor.number.Statement.{statement}
@@ -18,7 +19,7 @@ add-t10 c = search needs
 returns : tie.Need-returns
 returns c =
     let a = c .before .before .before .before .args in
-    sym (ends (a .file .now) (a .self .at) (c .before .before .if1 .taken) 4 (omega arith) (c .if2 .taken))
+    sym (ends (a .file .now) (a .self .at) (c .before .before .if1 .taken) (limits .groupsBefore) (omega arith) (c .if2 .taken))
 
 groups-requires : tie.Need-groups-requires
 groups-requires c κs = search needs

@@ -1,5 +1,6 @@
 use mathlib.Core.Path.{sym, ap, _∙_}
-use Rattle.cursor.specs.Answers.{got}
+use native.Mathlib.Omega.{arith}
+use Rattle.cursor.specs.Answers.{gotWide}
 use Rattle.formulas.proofs.Formulas.{named-stopped, named-high, named-good, named-undriven}
 use borrow.Author.Needs.{needs}
 use Rattle.formulas.proofs.formula.named.Statement.{statement}
@@ -9,7 +10,10 @@ returns : tie.Need-returns
 returns c =
     let number′ = c .before .before .before .before .number in
     let v′ = c .before .before .v in
-    sym (named-high _ _ _ _ _ _ (sym (number′ .ensures) ∙ ap got (v′ .given .1)) (c .if1 .taken))
+    sym (named-high _ _ _ _ _ _ (sym (number′ .ensures) ∙ ap gotWide (v′ .given .1)) (c .if1 .taken))
+
+cast-signal : tie.Need-cast-signal
+cast-signal c = omega (arith, c .before .before .before .before .before .before .pre)
 
 returns-2 : tie.Need-returns-2
 returns-2 c =
@@ -17,12 +21,12 @@ returns-2 c =
     let v′ = c .before .before .before .before .v in
     let if1′ = c .before .before .if1 in
     sym
-    (named-good _ _ _ _ _ _ (sym (number′ .ensures) ∙ ap got (v′ .given .1)) (if1′ .left) (sym (c .before .member .ensures) ∙ c .if2 .taken))
+    (named-good _ _ _ _ _ _ (sym (number′ .ensures) ∙ ap gotWide (v′ .given .1)) (if1′ .left) (sym (c .before .member .ensures) ∙ c .if2 .taken))
 
 returns-3 : tie.Need-returns-3
 returns-3 c =
     let number′ = c .before .before .before .number in
-    sym (named-stopped _ _ _ _ _ (sym (number′ .ensures) ∙ ap got (c .before .r .given .1)))
+    sym (named-stopped _ _ _ _ _ (sym (number′ .ensures) ∙ ap gotWide (c .before .r .given .1)))
 
 returns-4 : tie.Need-returns-4
 returns-4 c =
@@ -30,7 +34,7 @@ returns-4 c =
     let v′ = c .before .before .before .before .v in
     let if1′ = c .before .before .if1 in
     sym
-    (named-undriven _ _ _ _ _ _ (sym (number′ .ensures) ∙ ap got (v′ .given .1)) (if1′ .left) (sym (c .before .member .ensures) ∙ c .if2 .left))
+    (named-undriven _ _ _ _ _ _ (sym (number′ .ensures) ∙ ap gotWide (v′ .given .1)) (if1′ .left) (sym (c .before .member .ensures) ∙ c .if2 .left))
 
 pub named-spec : {M : Type 1} → statement M
 named-spec =
@@ -40,6 +44,7 @@ named-spec =
     (λ c. search needs)
     (λ c. search needs)
     returns
+    cast-signal
     (λ c κs. search needs)
     returns-2
     returns-3

@@ -4,7 +4,7 @@ use mathlib.Core.List.{List}
 use lib.ListN.{length, length-replicate}
 use native.Mathlib.Omega.{arith}
 use borrow.Author.Needs.{needs}
-use Prim.Native.Nat.{ℕ, _-_, _≤_}
+use Prim.Native.Nat.{ℕ, _*_, _-_, _≤_}
 use Rattle.meaning.specs.File.Parser.{Done, done, found}
 use Rattle.meaning.specs.File.Grammar.{limits}
 use Rattle.meaning.proofs.File.Progress.{Progress, begin, stop, more, end}
@@ -30,10 +30,10 @@ abbrev μ-loop : tie.MeasureT-loop
 loop-holds : tie.Need-loop-holds Inv-loop μ-loop
 loop-holds c = (omega arith, begin _ _ _ _ _ _ _ refl)
 
-long : (c : tie.At-loop Inv-loop μ-loop) → 256 ≡ length (c .loop .list)
+long : (c : tie.At-loop Inv-loop μ-loop) → limits .starts * limits .components ≡ length (c .loop .list)
 long c =
     let p = c .loop .inv .1 in
-    sym (ap length (p .held) ∙ rows-length (limits .components) (p .seen) 0 _ ∙ length-replicate {A = ℕ} 256 0)
+    sym (ap length (p .held) ∙ rows-length (limits .components) (p .seen) 0 _ ∙ length-replicate {A = ℕ} (limits .starts * limits .components) 0)
 
 start-requires : tie.Need-start-requires Inv-loop μ-loop
 start-requires c κs =

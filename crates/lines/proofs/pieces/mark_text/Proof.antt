@@ -1,24 +1,39 @@
+use mathlib.Core.List.{_++_}
 use borrow.Author.Needs.{needs}
-use Rattle.text.proofs.Texts.{put-more, decimal-length}
-use Rattle.lines.proofs.Lengths.{mark-label-short}
-use Rattle.lines.proofs.Parts.{after-label}
+use Rattle.answers.specs.Listing.{componentLabel, decimal, lineEnd}
+use Rattle.answers.specs.Lines.{failLabel, nodeLabel, passLabel}
+use Rattle.text.specs.Texts.{Room}
+use Rattle.text.proofs.Texts.{put-more, room-first, room-rest, room-same}
+use Rattle.lines.proofs.Parts.{after-label, mark-parts}
 use Rattle.lines.proofs.pieces.mark_text.Statement.{statement}
 use Rattle.lines.proofs.pieces.mark_text.Tie as tie
 
+-- the label, PASS, FAIL and the line end
+room : (s : tie.Start) → let a = s .args in
+    Room ((componentLabel ++ (decimal (a .c) ++ (nodeLabel ++ decimal (a .k)))) ++ ((passLabel ++ decimal (a .pass)) ++ ((failLabel ++ decimal (a .fail)) ++ lineEnd)))
+    (a .at) (a .out .now)
+room s = let a = s .args in room-same (mark-parts (a .c) (a .k) (a .pass) (a .fail)) (s .pre)
+
+mark-label-requires : tie.Need-mark-label-requires
+mark-label-requires c κs = room-first _ _ (room (c .before .before))
+
 labelled-requires : tie.Need-labelled-requires
 labelled-requires c κs =
-    let a = c .before .before .before .before .before .before .before .args in
-    search (needs, mark-label-short (a .c) (a .k))
+    let m = c .before .before .before .before in
+    room-first _ _ (room-rest _ _ (room (m .before .before .before)) (m .mark-label .ensures))
 
 labelled-requires-2 : tie.Need-labelled-requires-2
 labelled-requires-2 c κs =
-    let a = c .before .before .before .before .before .before .before .before .before .before .before .before .args in
-    search (needs, mark-label-short (a .c) (a .k), decimal-length (a .pass))
+    let l = c .before .before .before .before in
+    let m = l .before .before .before .before .before in
+    room-first _ _ (room-rest _ _ (room-rest _ _ (room (m .before .before .before)) (m .mark-label .ensures)) (l .labelled .ensures))
 
 byte-requires : tie.Need-byte-requires
 byte-requires c κs =
-    let a = c .before .before .before .before .before .before .before .before .before .before .before .before .before .before .before .before .args in
-    search (needs, mark-label-short (a .c) (a .k), decimal-length (a .pass), decimal-length (a .fail))
+    let f = c .before .before .before in
+    let l = f .before .before .before .before .before in
+    let m = l .before .before .before .before .before in
+    room-rest _ _ (room-rest _ _ (room-rest _ _ (room (m .before .before .before)) (m .mark-label .ensures)) (l .labelled .ensures)) (f .labelled2 .ensures) .fits
 
 returns : tie.Need-returns
 returns c =
@@ -31,9 +46,7 @@ pub mark-text-spec : {M : Type 1} → statement M
 mark-text-spec =
     tie.close
     (tie.spec
-    (λ c. search needs)
-    (λ c. search needs)
-    (λ c κs. search needs)
+    mark-label-requires
     (λ c. search needs)
     labelled-requires
     (λ c. search needs)

@@ -1,10 +1,28 @@
 use mathlib.Core.Path.{sym}
+use mathlib.Core.List.{_++_}
 use native.Mathlib.Omega.{arith}
 use borrow.Author.Needs.{needs}
-use Rattle.text.proofs.Texts.{put-more, put-same}
+use Rattle.answers.specs.Listing.{decimal, space}
+use Rattle.text.specs.Texts.{Room}
+use Rattle.text.proofs.Texts.{put-more, put-same, room-first, room-rest, room-same}
 use Rattle.lines.proofs.Parts.{word-first, word-later}
 use Rattle.lines.proofs.pieces.word_text.Statement.{statement}
 use Rattle.lines.proofs.pieces.word_text.Tie as tie
+
+decimal-requires : tie.Need-decimal-requires
+decimal-requires c κs =
+    let s = c .before .before .before in
+    room-same (word-first (s .args .i) (s .args .w) (c .before .if1 .taken)) (s .pre)
+
+-- a later word, after a space
+later : (c : tie.Else1) → let s = c .before .before in Room (space ++ decimal (s .args .w)) (s .args .at) (s .args .out .now)
+later c = let s = c .before .before in room-same (word-later (s .args .i) (s .args .w) (omega arith)) (s .pre)
+
+byte-requires : tie.Need-byte-requires
+byte-requires c κs = room-first space _ (later (c .before)) .fits
+
+decimal-requires-2 : tie.Need-decimal-requires-2
+decimal-requires-2 c κs = let b = c .before .before .before in room-rest space _ (later (b .before .before)) (b .byte .ensures)
 
 returns : tie.Need-returns
 returns c =
@@ -22,10 +40,10 @@ pub word-text-spec : {M : Type 1} → statement M
 word-text-spec =
     tie.close
     (tie.spec
-    (λ c κs. search needs)
+    decimal-requires
     (λ c. search needs)
     returns
-    (λ c κs. search needs)
-    (λ c κs. search needs)
+    byte-requires
+    decimal-requires-2
     (λ c. search needs)
     returns-2)

@@ -1,5 +1,6 @@
 use mathlib.Core.Path.{sym, ap, _∙_}
-use Rattle.cursor.specs.Answers.{got}
+use native.Mathlib.Omega.{arith}
+use Rattle.cursor.specs.Answers.{gotWide}
 use Rattle.parsing.proofs.Signals.{signal-stopped, signal-low, signal-high, signal-taken, signal-good}
 use borrow.Author.Needs.{needs}
 use Rattle.parsing.proofs.lists.signal.Statement.{statement}
@@ -18,13 +19,16 @@ returns : tie.Need-returns
 returns c =
     let number′ = c .before .before .before .before .number in
     let v′ = c .before .before .v in
-    sym (signal-low _ _ _ _ _ _ _ (sym (number′ .ensures) ∙ ap got (v′ .given .1)) (c .if1 .taken))
+    sym (signal-low _ _ _ _ _ _ _ (sym (number′ .ensures) ∙ ap gotWide (v′ .given .1)) (c .if1 .taken))
 
 returns-2 : tie.Need-returns-2
 returns-2 c =
     let number′ = c .before .before .before .before .before .number in
     let v′ = c .before .before .before .v in
-    sym (signal-high _ _ _ _ _ _ _ (sym (number′ .ensures) ∙ ap got (v′ .given .1)) (c .before .if1 .left) (c .if2 .taken))
+    sym (signal-high _ _ _ _ _ _ _ (sym (number′ .ensures) ∙ ap gotWide (v′ .given .1)) (c .before .if1 .left) (c .if2 .taken))
+
+cast-listed : tie.Need-cast-listed
+cast-listed c = omega (arith, c .before .before .before .before .before .before .before .pre)
 
 member-requires : tie.Need-member-requires
 member-requires c κs = search needs
@@ -36,13 +40,13 @@ returns-3 c =
     let if1′ = c .before .before .before .if1 in
     let if2′ = c .before .before .if2 in
     sym
-    (signal-taken _ _ _ _ _ _ _ (sym (number′ .ensures) ∙ ap got (v′ .given .1)) (if1′ .left) (if2′ .left)
+    (signal-taken _ _ _ _ _ _ _ (sym (number′ .ensures) ∙ ap gotWide (v′ .given .1)) (if1′ .left) (if2′ .left)
     (sym (c .before .member .ensures) ∙ c .if3 .taken))
 
 returns-4 : tie.Need-returns-4
 returns-4 c =
     let number′ = c .before .before .before .number in
-    sym (signal-stopped _ _ _ _ _ _ (sym (number′ .ensures) ∙ ap got (c .before .r .given .1)))
+    sym (signal-stopped _ _ _ _ _ _ (sym (number′ .ensures) ∙ ap gotWide (c .before .r .given .1)))
 
 returns-5 : tie.Need-returns-5
 returns-5 c =
@@ -51,7 +55,7 @@ returns-5 c =
     let if1′ = c .before .before .before .if1 in
     let if2′ = c .before .before .if2 in
     sym
-    (signal-good _ _ _ _ _ _ _ (sym (number′ .ensures) ∙ ap got (v′ .given .1)) (if1′ .left) (if2′ .left)
+    (signal-good _ _ _ _ _ _ _ (sym (number′ .ensures) ∙ ap gotWide (v′ .given .1)) (if1′ .left) (if2′ .left)
     (sym (c .before .member .ensures) ∙ c .if3 .left))
 
 pub signal-spec : {M : Type 1} → statement M
@@ -63,6 +67,7 @@ signal-spec =
     enum-known-v
     returns
     returns-2
+    cast-listed
     member-requires
     returns-3
     returns-4

@@ -1,4 +1,4 @@
-use mathlib.Core.Path.{subst}
+use mathlib.Core.Path.{refl, subst}
 use lib.ListN.{length}
 use Rattle.meaning.specs.File.Grammar.{readFile}
 use Rattle.reader.specs.Outcomes.{Tells}
@@ -10,7 +10,7 @@ use Rattle.queries.proofs.listed.listing.Statement.{statement}
 use Rattle.queries.proofs.listed.listing.Tie as tie
 
 read-requires : tie.Need-read-requires
-read-requires c κs = search needs
+read-requires c κs = refl
 
 enum-known-outcome : tie.Need-enum-known-outcome
 enum-known-outcome c = search needs
@@ -20,15 +20,15 @@ enum-told c = search needs
 
 write-listing-requires : tie.Need-write-listing-requires
 write-listing-requires c κs =
-    let m = c .before .before .before .before in
-    let h = m .read .ensures .1 .1 (c .before .before .enum-told .given .1) in
+    let m = c .before .before .before .before .before .before in
+    let h = m .read .ensures .1 (c .before .before .before .enum-told .given .1) in
     (h .contents, h .describes)
 
 returns : tie.Need-returns
 unfolding listingOutcome
 returns c =
-    let m = c .before .before .before in
-    let a = m .before .before .before .args in
+    let m = c .before .before .before .before in
+    let a = m .before .before .before .before .args in
     let o = c .before .outcome in
     file-refused (λ I. listed I (length (a .out .now)) (judgement (verdictOf I))) (readFile (a .file .now)) (o .given .0 .0) (a .out .now)
     (subst (λ o. Tells o (readFile (a .file .now))) (o .given .1) (m .read .ensures .0))
@@ -40,18 +40,20 @@ returns-2 : tie.Need-returns-2
 unfolding listingOutcome
 returns-2 c =
     let w = c .before .before in
-    let m = w .before .before .before .before .before in
-    let a = m .before .before .before .args in
-    let h = m .read .ensures .1 .1 (w .before .before .before .enum-told .given .1) in
+    let m = w .before .before .before .before .before .before .before in
+    let a = m .before .before .before .before .args in
+    let h = m .read .ensures .1 (w .before .before .before .before .enum-told .given .1) in
     file-answered (λ I. listed I (length (a .out .now)) (judgement (verdictOf I))) h (w .write-listing .ensures (h .contents) (h .describes))
 
 pub listing-spec : {M : Type 1} → statement M
 listing-spec =
     tie.close
     (tie.spec
+    (λ c. search needs)
     read-requires
     enum-known-outcome
     enum-told
+    (λ c. search needs)
     write-listing-requires
     returns
     same-length

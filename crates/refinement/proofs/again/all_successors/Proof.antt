@@ -5,7 +5,7 @@ use Rattle.words.proofs.Digits.{power-word}
 use Rattle.meaning.specs.StepWords.{successorWord}
 use Rattle.refinement.specs.Again.{UnitedTo}
 use Rattle.classes.proofs.Component.{within}
-use Rattle.refinement.proofs.Changed.{united-start, united-more, united-end}
+use Rattle.refinement.proofs.United.{united-start, united-more, united-end}
 use Rattle.refinement.proofs.again.all_successors.Statement.{statement}
 use Rattle.refinement.proofs.again.all_successors.Tie as tie
 

@@ -25,14 +25,12 @@ failing-spec =
     tie.close
     (tie.spec
     (λ c κs. let p = c .before .pre in omega (arith, p .0 .most-states, p .1))
-    (λ c. omega (arith, c .before .before .pre .0 .most-states))
     (λ c κs. c .before .before .pre .0 .most-states)
     (λ c. omega arith)
     (λ c. let p = c .before .before .before .pre in omega (arith, p .0 .most-states, p .1))
     (λ c κs. tt)
     (λ c κs. tt)
     matched-row-requires
-    (λ c. omega (arith, c .before .before .before .before .before .before .before .pre .0 .most-states))
     (λ c κs. c .before .before .before .before .before .before .before .pre .0 .most-states)
     (λ c κs. tt)
     returns)

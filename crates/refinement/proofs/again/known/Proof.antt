@@ -15,7 +15,6 @@ pub known-spec : {M : Type 1} → statement M
 known-spec =
     tie.close
     (tie.spec
-    (λ c. search needs)
     (λ c κs. search needs)
     (λ c κs. search needs)
     (λ c κs. search needs)

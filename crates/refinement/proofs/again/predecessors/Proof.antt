@@ -29,9 +29,10 @@ loop-again c =
 returns : tie.Need-returns Inv-loop μ-loop
 unfolding again.predecessorRows conversed rows
 returns c =
-    let l = c .before .before in
+    let e = c .before .before in
+    let l = e .before in
     let m = l .before .before .pre .most-states in
-    c .converse .ensures ∙ rw (filling-end (l .loop .inv) (c .before .loop-test .left)) (rows-same _ _ _ m (λ v x i j. rel-rows _ _ x v m j i))
+    c .converse .ensures ∙ rw (filling-end (l .loop .inv) (e .loop-test .left)) (rows-same _ _ _ m (λ v x i j. rel-rows _ _ x v m j i))
 
 pub predecessors-spec : {M : Type 1} → statement M
 predecessors-spec =
@@ -46,5 +47,5 @@ predecessors-spec =
     (λ c. omega arith)
     (λ c. omega arith)
     loop-again
-    (λ c κs. c .before .before .before .pre .most-states)
+    (λ c κs. c .before .before .before .before .pre .most-states)
     returns)

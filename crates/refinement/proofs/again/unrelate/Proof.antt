@@ -4,28 +4,30 @@ use Prim.Native.Nat.{_<_}
 use lib.ListN.{length}
 use Rattle.words.specs.Sets.{without}
 use Rattle.words.proofs.Passing.{passing-lowest, passing-less}
-use Rattle.refinement.specs.Again.{Changing}
-use Rattle.refinement.proofs.Changed.{changing-start, changing-more, changing-end}
+use Rattle.meaning.specs.File.Grammar.{mostStates}
+use Rattle.state_words.specs.Width.{stateBits}
+use Rattle.classes.specs.Changed.{Changing}
+use Rattle.classes.proofs.Changed.{changing-start, changing-more, changing-end}
 use Rattle.refinement.proofs.again.unrelate.Statement.{statement}
 use Rattle.refinement.proofs.again.unrelate.Tie as tie
 
 abbrev Inv-loop : tie.InvT-loop
-Inv-loop rows₀ places x rest₀ rows rest = (length rows₀ ≡ 32) × Changing (λ w. without 32 w x) places rest rows₀ rows
+Inv-loop rows₀ places x rest₀ rows rest = (length rows₀ ≡ mostStates) × Changing (λ w. without stateBits w x) places rest rows₀ rows
 
 abbrev μ-loop : tie.MeasureT-loop
 μ-loop rows₀ places x rest₀ rows rest = rest
 
--- the lowest place is below 32
-low : (c : tie.After-lowest Inv-loop μ-loop) → c .lowest .result < 32
+-- the lowest place is below the width
+low : (c : tie.After-lowest Inv-loop μ-loop) → c .lowest .result < stateBits
 low c =
     let l = c .before .before in
-    omega (arith, c .lowest .ensures, passing-lowest 32 (l .loop .inv .1 .passing) (l .before .fits .places .fits) (c .before .loop-test .taken) .inside)
+    omega (arith, c .lowest .ensures, passing-lowest stateBits (l .loop .inv .1 .passing) (l .before .fits .places .fits) (c .before .loop-test .taken) .inside)
 
 loop-less : tie.Need-loop-less Inv-loop μ-loop
 loop-less c =
     let t = c .before .before .before .before in
     let l = t .before in
-    passing-less 32 (l .loop .inv .1 .passing) (l .before .fits .places .fits) (t .loop-test .taken) (c .without-lowest .ensures)
+    passing-less stateBits (l .loop .inv .1 .passing) (l .before .fits .places .fits) (t .loop-test .taken) (c .without-lowest .ensures)
 
 loop-again : tie.Need-loop-again Inv-loop μ-loop
 loop-again c =
@@ -34,8 +36,8 @@ loop-again c =
     let l = w .before .before in (
       l .loop .inv .0,
       rw (w .lowest .ensures)
-          (changing-more 32 (l .loop .inv .1) (l .loop .inv .0) (l .before .fits .places .fits) (w .before .loop-test .taken)
-          (u .remove .ensures ∙ rw (w .lowest .ensures)) (c .without-lowest .ensures)),
+          (changing-more stateBits (l .loop .inv .1) (l .loop .inv .0) (l .before .fits .places .fits) (w .before .loop-test .taken)
+          (u .without .ensures ∙ rw (w .lowest .ensures)) (c .without-lowest .ensures)),
     )
 
 returns : tie.Need-returns Inv-loop μ-loop
@@ -49,7 +51,6 @@ unrelate-spec =
     μ-loop
     (λ c. (c .pre .0, changing-start _ _ _))
     (λ c κs. tt)
-    (λ c. omega (arith, low c))
     (λ c. omega (arith, low c))
     (λ c. omega (arith, low c))
     (λ c κs. c .before .before .before .before .pre .1)

@@ -9,7 +9,7 @@ returns : tie.Need-returns
 returns c =
     let f = c .before .before in
     let p = f .before .before .before .before .pre in
-    looked-none (p .0 .most-states) (p .1) (p .2) (p .3) (p .4) (f .failing .ensures) (c .if1 .taken) (c .before .remove .ensures)
+    looked-none (p .0 .most-states) (p .1) (p .2) (p .3) (p .4) (f .failing .ensures) (c .if1 .taken) (c .before .without .ensures)
 
 delete-requires : tie.Need-delete-requires
 delete-requires c κs =
@@ -31,7 +31,7 @@ returns-2 c =
     let i = c .before .before .before .before .before in
     let f = i .before .before in
     let p = f .before .before .before .before .pre in
-    looked-deleted (p .0 .most-states) (p .1) (p .2) (p .3) (p .4) (f .failing .ensures) (i .if1 .left) (i .before .remove .ensures) (c .delete .ensures)
+    looked-deleted (p .0 .most-states) (p .1) (p .2) (p .3) (p .4) (f .failing .ensures) (i .if1 .left) (i .before .without .ensures) (c .delete .ensures)
 
 pub look-spec : {M : Type 1} → statement M
 look-spec =
@@ -40,7 +40,6 @@ look-spec =
     (λ c. search needs)
     (λ c. search needs)
     (λ c κs. search needs)
-    (λ c. search needs)
     (λ c. search needs)
     (λ c. search needs)
     (λ c κs. search needs)

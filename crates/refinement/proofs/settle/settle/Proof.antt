@@ -1,8 +1,9 @@
 use native.Mathlib.Omega.{arith}
-use Prim.Native.Nat.{_+_, _*_, _<_}
-use mir.Syntax.{w32}
+use Prim.Native.Nat.{_+_, _*_, _^_, _<_}
 use mir.Val.{Fits}
 use borrow.Author.Needs.{needs}
+use Rattle.meaning.specs.File.Grammar.{mostStates}
+use Rattle.state_words.specs.Width.{stateBits, stateWord}
 use Rattle.refinement.specs.Again.{total, Settling}
 use Rattle.refinement.proofs.Looks.{settling-start, settling-more, looked-falls}
 use Rattle.refinement.proofs.settle.settle.Statement.{statement}
@@ -10,10 +11,10 @@ use Rattle.refinement.proofs.settle.settle.Tie as tie
 
 abbrev Inv-loop : tie.InvT-loop
 Inv-loop succ states inputs pass fail pre rows₀ other₀ again₀ back₀ left₀ x₀ rows other again back left x =
-    (x < 32) × Settling states inputs succ pass fail rows₀ other₀ again₀ back₀ rows other again back (left₀ .here) (left₀ .there) (left .here) (left .there)
+    (x < mostStates) × Settling states inputs succ pass fail rows₀ other₀ again₀ back₀ rows other again back (left₀ .here) (left₀ .there) (left .here) (left .there)
 
 abbrev μ-loop : tie.MeasureT-loop
-μ-loop succ states inputs pass fail pre rows₀ other₀ again₀ back₀ left₀ x₀ rows other again back left x = total rows other * 4294967296 + left .here
+μ-loop succ states inputs pass fail pre rows₀ other₀ again₀ back₀ left₀ x₀ rows other again back left x = total rows other * 2 ^ stateBits + left .here
 
 -- the next row is one of a state
 row : (c : tie.After-next-row Inv-loop μ-loop) → c .next-row .result < c .before .before .before .before .before .args .states
@@ -30,7 +31,7 @@ look-requires c κs =
     (p .0, p .1, l .loop .inv .1 .long, row n, n .next-row .ensures)
 
 loop-less : tie.Need-loop-less Inv-loop μ-loop
-loop-less c = let f : Fits w32 (c .look .result .here) = search needs in looked-falls (c .look .ensures) (f .fits)
+loop-less c = let f : Fits stateWord (c .look .result .here) = search needs in looked-falls (c .look .ensures) (f .fits)
 
 loop-again : tie.Need-loop-again Inv-loop μ-loop
 loop-again c =
