@@ -32,7 +32,7 @@ extern "C" {
 /* Refusals. */
 enum {
     PINTHAR_FILE_ENDS = 1,             /* file ends inside or before a number */
-    PINTHAR_NUMBER_FORM = 2,           /* form not shortest, or above 2^32 - 1 */
+    PINTHAR_NUMBER_FORM = 2,           /* form not shortest, or above 2^64 - 1 */
     PINTHAR_OUTSIDE_RANGE = 3,         /* count, or asked component number, outside its range */
     PINTHAR_LISTED_SIGNAL = 4,         /* listed signal not ascending or not below W */
     PINTHAR_OUTPUT_TAKEN = 5,          /* output already driven, or also an own input */
@@ -50,14 +50,15 @@ enum {
 /* So many entries are room enough for every file. */
 #define PINTHAR_MOST_WORDS 4096 /* full words, merged words */
 #define PINTHAR_MOST_MARKS 192
-#define PINTHAR_MOST_NAMES 128
+#define PINTHAR_MOST_NAMES 256
 #define PINTHAR_MOST_TEXT 2048
 
 /* The full way: writes a word per combined state, bit k the truth of node k, and answers how many. Refused by 1 to 10, 11, 13. */
 uint64_t pinthar_full_words(const uint8_t *file, size_t file_size, uint32_t *out, size_t out_size);
 
-/* Marks: writes two words for every component and node, PASS then FAIL, components outermost, and answers how many. 1 to 10, 13. */
-uint64_t pinthar_mark_words(const uint8_t *file, size_t file_size, uint32_t *out, size_t out_size);
+/* Marks: writes two words of 64 bits for every component and node, PASS then FAIL, bit t for state t, components outermost, and answers how
+ * many. 1 to 10, 13. */
+uint64_t pinthar_mark_words(const uint8_t *file, size_t file_size, uint64_t *out, size_t out_size);
 
 /* Classes: writes the name of every state's class, a byte per state, components in order, and answers how many. 1 to 10, 13. */
 uint64_t pinthar_class_names(const uint8_t *file, size_t file_size, uint8_t *out, size_t out_size);

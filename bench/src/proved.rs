@@ -5,7 +5,7 @@ type Writer<T> = unsafe extern "C" fn(*const u8, usize, *mut T, usize) -> u64;
 #[link(name = "pinthar", kind = "static")]
 extern "C" {
     fn pinthar_full_words(file: *const u8, size: usize, out: *mut u32, room: usize) -> u64;
-    fn pinthar_mark_words(file: *const u8, size: usize, out: *mut u32, room: usize) -> u64;
+    fn pinthar_mark_words(file: *const u8, size: usize, out: *mut u64, room: usize) -> u64;
     fn pinthar_class_names(file: *const u8, size: usize, out: *mut u8, room: usize) -> u64;
     fn pinthar_merged_words(file: *const u8, size: usize, out: *mut u32, room: usize) -> u64;
     fn pinthar_listing(file: *const u8, size: usize, out: *mut u8, room: usize) -> u64;
@@ -22,7 +22,7 @@ pub fn full_words(file: &[u8], out: &mut [u32]) -> u64 {
     write(pinthar_full_words, file, out)
 }
 
-pub fn mark_words(file: &[u8], out: &mut [u32]) -> u64 {
+pub fn mark_words(file: &[u8], out: &mut [u64]) -> u64 {
     write(pinthar_mark_words, file, out)
 }
 

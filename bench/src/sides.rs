@@ -10,7 +10,7 @@ const UNWRITTEN: u8 = 0xbe;
 /// Results are those of interface/pinthar.h: the refusal's number in the upper 32 bits.
 pub struct Side {
     full_words: fn(&[u8], &mut [u32]) -> u64,
-    mark_words: fn(&[u8], &mut [u32]) -> u64,
+    mark_words: fn(&[u8], &mut [u64]) -> u64,
     class_names: fn(&[u8], &mut [u8]) -> u64,
     merged_words: fn(&[u8], &mut [u32]) -> u64,
     verdict: fn(&[u8]) -> u64,
@@ -63,6 +63,7 @@ pub const QUESTIONS: [(&str, Question); 7] = [
 pub struct Answer {
     result: u64,
     words: Vec<u32>,
+    marks: Vec<u64>,
     bytes: Vec<u8>,
 }
 
@@ -70,17 +71,18 @@ impl Side {
     /// Asks the question and times it. The buffers are filled before, outside the time.
     pub fn ask(&self, question: Question, input: &Input, times: &mut Times) -> Answer {
         let mut words = vec![u32::from_ne_bytes([UNWRITTEN; 4]); 4096];
-        let mut bytes = vec![UNWRITTEN; 2048];
+        let mut marks = vec![u64::from_ne_bytes([UNWRITTEN; 8]); 192];
+        let mut bytes = vec![UNWRITTEN; 4096];
         let file = &input.file;
         let result = times.time(|| match question {
             Question::Full => (self.full_words)(file, &mut words),
-            Question::Marks => (self.mark_words)(file, &mut words),
+            Question::Marks => (self.mark_words)(file, &mut marks),
             Question::Classes => (self.class_names)(file, &mut bytes),
             Question::Merged => (self.merged_words)(file, &mut words),
             Question::Verdict => (self.verdict)(file),
             Question::Listing => (self.listing)(file, &mut bytes),
             Question::Lookup => (self.lookup)(file, input.asked),
         });
-        Answer { result, words, bytes }
+        Answer { result, words, marks, bytes }
     }
 }

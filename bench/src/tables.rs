@@ -33,20 +33,29 @@ fn rounds(question: Question, input: &Input) -> [Times; 3] {
     times
 }
 
-/// Best times of the three sides with the ratios of proved to each plain one, then medians.
+/// From so many combined states on the proved side is to take at most 1.2 times as long.
+const LARGE: u64 = 512;
+
+/// Best times of the three sides with the ratios of proved to each plain one, then medians; below
+/// the table the largest of the first ratios.
 pub fn print(word: &str, question: Question, inputs: &[Input]) {
     println!(
         "| {word} | proved | plain | ratio | native | ratio | medians: proved | plain | ratio |"
     );
     println!("|---|--:|--:|--:|--:|--:|--:|--:|--:|");
+    let mut largest = (0.0, "no input");
     for input in inputs {
         let [proved, plain, native] = rounds(question, input);
+        let ratio = proved.best() / plain.best();
+        if input.states() >= LARGE && ratio > largest.0 {
+            largest = (ratio, &input.name);
+        }
         println!(
             "| {} | {} | {} | **{:.2}** | {} | {:.2} | {} | {} | {:.2} |",
             input.name,
             proved.best(),
             plain.best(),
-            proved.best() / plain.best(),
+            ratio,
             native.best(),
             proved.best() / native.best(),
             proved.median(),
@@ -54,5 +63,5 @@ pub fn print(word: &str, question: Question, inputs: &[Input]) {
             proved.median() / plain.median(),
         );
     }
-    println!();
+    println!("\nLargest ratio to plain from {LARGE} states on: {:.2}, {}\n", largest.0, largest.1);
 }

@@ -1,4 +1,5 @@
-/* Asks every question about document 01's pair, prints the answers, and compares them with document 01: exit code 0 if all agree. */
+/* Asks every question about document 01's pair, and the marks of a component of 64 states, prints the answers, and compares them with
+ * document 01: exit code 0 if all agree. */
 #include <stdio.h>
 #include <string.h>
 
@@ -24,9 +25,29 @@ static void words(void)
     out[0] = 9;
     r = pinthar_full_words(pair, sizeof pair, out, 3);
     expect("three entries are refused by 13, and kept", PINTHAR_REFUSAL(r) == PINTHAR_BUFFER_TOO_SHORT && out[0] == 9);
-    uint32_t marks[PINTHAR_MOST_MARKS];
+    uint64_t marks[PINTHAR_MOST_MARKS];
     r = pinthar_mark_words(pair, sizeof pair, marks, PINTHAR_MOST_MARKS);
     expect("marks: two components and two nodes", r == 8 && marks[0] == 1 && marks[1] == 2);
+}
+
+/* One component of 64 states without signals, each of which goes to state 63, a set of ten bytes; true and not true, no starts. */
+static void wide(void)
+{
+    static const uint8_t head[] = {1, 0, 64, 0, 0}, tail[] = {2, 0, 2, 0, 0};
+    static const uint8_t last[] = {128, 128, 128, 128, 128, 128, 128, 128, 128, 1};
+    uint8_t file[sizeof head + 64 + 64 * sizeof last + sizeof tail] = {0};
+    uint8_t *at = file + sizeof head + 64;
+    memcpy(file, head, sizeof head);
+    for (int i = 0; i < 64; i++, at += sizeof last)
+        memcpy(at, last, sizeof last);
+    memcpy(at, tail, sizeof tail);
+    uint64_t marks[5] = {9, 9, 9, 9, 9};
+    uint64_t r = pinthar_mark_words(file, sizeof file, marks, 5);
+    expect("64 states are PASS of true", r == 4 && marks[0] == UINT64_MAX && marks[1] == 0);
+    expect("64 states are FAIL of not true", marks[2] == 0 && marks[3] == UINT64_MAX && marks[4] == 9);
+    file[2] = 65;
+    r = pinthar_mark_words(file, sizeof file, marks, 5);
+    expect("65 states are refused by 3", PINTHAR_REFUSAL(r) == PINTHAR_OUTSIDE_RANGE && marks[0] == UINT64_MAX);
 }
 
 static void bytes(void)
@@ -55,6 +76,7 @@ static void values(void)
 int main(void)
 {
     words();
+    wide();
     bytes();
     values();
     printf("%d failures\n", failures);

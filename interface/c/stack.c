@@ -16,6 +16,7 @@
 #define ROOM ((size_t)32 << 20)
 #define STEP ((size_t)64 << 10)
 #define QUESTIONS 8
+#define FILE_BYTES 49153 /* which the programs read of a file */
 
 static const char *const names[QUESTIONS] = {"full_words", "mark_words", "class_names", "merged_words", "listing", "lookup", "verdict", "component"};
 
@@ -24,6 +25,7 @@ struct call {
     const uint8_t *file;
     size_t size;
     uint32_t *words; /* 4,096 entries, not on the stack */
+    uint64_t *marks; /* PINTHAR_MOST_MARKS entries, likewise */
     uint64_t result;
     uintptr_t top;
 };
@@ -32,7 +34,7 @@ static void ask(struct call *c)
 {
     switch (c->question) {
     case 0: c->result = pinthar_full_words(c->file, c->size, c->words, 4096); break;
-    case 1: c->result = pinthar_mark_words(c->file, c->size, c->words, 4096); break;
+    case 1: c->result = pinthar_mark_words(c->file, c->size, c->marks, PINTHAR_MOST_MARKS); break;
     case 2: c->result = pinthar_class_names(c->file, c->size, (uint8_t *)c->words, 4096); break;
     case 3: c->result = pinthar_merged_words(c->file, c->size, c->words, 4096); break;
     case 4: c->result = pinthar_listing(c->file, c->size, (uint8_t *)c->words, 4096); break;
@@ -107,27 +109,28 @@ static size_t least(struct call *c)
     return bytes;
 }
 
-static size_t load(const char *path, uint8_t file[16385])
+static size_t load(const char *path, uint8_t file[FILE_BYTES])
 {
     FILE *f = fopen(path, "rb");
     if (f == NULL) {
         perror(path);
         exit(1);
     }
-    size_t size = fread(file, 1, 16385, f);
+    size_t size = fread(file, 1, FILE_BYTES, f);
     fclose(f);
     return size;
 }
 
 int main(int argc, char **argv)
 {
-    static uint8_t file[16385];
+    static uint8_t file[FILE_BYTES];
     uint32_t *words = calloc(4096, sizeof *words);
+    uint64_t *marks = calloc(PINTHAR_MOST_MARKS, sizeof *marks);
     size_t deepest[QUESTIONS] = {0};
     int where[QUESTIONS] = {0};
     int accepted = 0, lost = 0;
     for (int i = 1; i < argc; i++) {
-        struct call c = {.file = file, .size = load(argv[i], file), .words = words};
+        struct call c = {.file = file, .size = load(argv[i], file), .words = words, .marks = marks};
         for (c.question = 0; c.question < QUESTIONS; c.question++) {
             size_t d = depth(&c);
             if (d > deepest[c.question]) {
@@ -138,7 +141,7 @@ int main(int argc, char **argv)
         accepted += PINTHAR_REFUSAL(c.result) == 0;
     }
     for (int q = 0; q < QUESTIONS && argc > 1; q++) {
-        struct call c = {.question = q, .file = file, .size = load(argv[where[q]], file), .words = words};
+        struct call c = {.question = q, .file = file, .size = load(argv[where[q]], file), .words = words, .marks = marks};
         size_t bytes = least(&c);
         lost += bytes == 0;
         printf("%-12s %9zu bytes; least stack %9zu\n", names[q], deepest[q], bytes);

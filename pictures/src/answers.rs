@@ -7,7 +7,7 @@ pub struct Answers {
     /// For each component and state, the name of its class.
     pub classes: Vec<Vec<usize>>,
     /// For each component and node, PASS and FAIL as words.
-    pub marks: Vec<Vec<(u32, u32)>>,
+    pub marks: Vec<Vec<(u64, u64)>>,
     pub verdict: String,
 }
 
@@ -46,8 +46,8 @@ fn class_names(text: &str) -> Result<Vec<Vec<usize>>, String> {
 }
 
 /// `component C node K PASS P FAIL F`, components outermost.
-fn mark_words(text: &str) -> Result<Vec<Vec<(u32, u32)>>, String> {
-    let mut components: Vec<Vec<(u32, u32)>> = Vec::new();
+fn mark_words(text: &str) -> Result<Vec<Vec<(u64, u64)>>, String> {
+    let mut components: Vec<Vec<(u64, u64)>> = Vec::new();
     for line in text.lines() {
         let words: Vec<&str> = line.split(' ').collect();
         let &["component", c, "node", k, "PASS", pass, "FAIL", fail] = words.as_slice() else {

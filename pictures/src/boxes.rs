@@ -22,6 +22,16 @@ pub struct Item {
     pub is_start: bool,
 }
 
+impl Item {
+    /// Leaves the number alone: that of a class is its name, without the word.
+    pub fn shorten(&mut self) {
+        self.rows.clear();
+        if let Some(name) = self.number.strip_prefix("class ") {
+            self.number = name.to_string();
+        }
+    }
+}
+
 /// Tells the fills of pictures on one page apart.
 pub fn family(component: &Component) -> String {
     format!("component-{}", component.number)
@@ -74,7 +84,8 @@ pub fn box_size(items: &[Item]) -> (f64, f64) {
         rows.fold(text_width(&item.number, NUMBER_SIZE) + 16.0, f64::max)
     });
     let rows = items.iter().map(|item| item.rows.len()).max().unwrap_or(0);
-    (widths.fold(40.0, f64::max) + 12.0, 28.0 + 11.0 * rows as f64)
+    let least: f64 = if rows == 0 { 32.0 } else { 40.0 };
+    (widths.fold(least, f64::max) + 12.0, 28.0 + 11.0 * rows as f64)
 }
 
 /// What is shown where the pointer rests on a state.

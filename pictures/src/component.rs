@@ -138,7 +138,7 @@ fn classes(names: &[usize]) -> Vec<Class> {
     classes
 }
 
-fn marks((pass, fail): (u32, u32), states: usize) -> Vec<Mark> {
+fn marks((pass, fail): (u64, u64), states: usize) -> Vec<Mark> {
     let mark = |s: usize| match (pass >> s & 1, fail >> s & 1) {
         (1, _) => Mark::Pass,
         (_, 1) => Mark::Fail,

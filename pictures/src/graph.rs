@@ -7,7 +7,7 @@ use crate::geometry::{Curve, Point, Rect};
 use crate::labels;
 use crate::lines::{lines, Line};
 use crate::palette::Fill;
-use crate::ring::Ring;
+use crate::ring::{Ring, LARGE};
 use crate::svg::{text_width, Anchor, Svg};
 
 /// Up to this many lines have long labels, and labels if there are no inputs.
@@ -80,7 +80,16 @@ impl Graph {
         Graph::of(component, items, classes.iter().map(alone).collect(), steps)
     }
 
-    fn of(component: &Component, items: Vec<Item>, groups: Vec<Group>, steps: Vec<Step>) -> Graph {
+    fn of(
+        component: &Component,
+        mut items: Vec<Item>,
+        groups: Vec<Group>,
+        steps: Vec<Step>,
+    ) -> Graph {
+        // The boxes of a large ring show nothing but their number: the matrix has the rest.
+        if items.len() > LARGE {
+            items.iter_mut().for_each(Item::shorten);
+        }
         let inputs = &component.table.inputs;
         let longest = if steps.len() <= FEW { 24 } else { 12 };
         let label = |step: &Step| condition(inputs, &step.taken, longest);
@@ -146,7 +155,7 @@ impl Graph {
     }
 
     fn placed_on(&self, ring: Ring, labelled: bool) -> Option<Placed> {
-        let lines = lines(&ring, &self.steps);
+        let lines = lines(&ring, &self.steps, labelled);
         let boxes = (0..self.items.len()).map(|i| ring.rect(i).grown(7.0));
         let mut taken: Vec<Rect> = boxes.collect();
         let loops = lines.iter().filter(|line| line.from == line.to);

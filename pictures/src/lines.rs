@@ -10,13 +10,17 @@ pub struct Line {
     pub curve: Curve,
 }
 
-/// The lines of the steps.
-pub fn lines(ring: &Ring, steps: &[(usize, usize)]) -> Vec<Line> {
+/// The lines of the steps. Lines without labels need no room for them and stay
+/// near the ring where their ends are near each other.
+pub fn lines(ring: &Ring, steps: &[(usize, usize)], labelled: bool) -> Vec<Line> {
     let rects: Vec<Rect> = (0..ring.angles.len()).map(|i| ring.rect(i)).collect();
     let mut lines = Vec::new();
     for &(from, to) in steps {
-        let curve =
-            if from == to { own_loop(ring, &rects, from) } else { between(ring, &rects, from, to) };
+        let curve = if from == to {
+            own_loop(ring, &rects, from)
+        } else {
+            between(ring, &rects, from, to, labelled)
+        };
         lines.push(Line { from, to, curve });
     }
     lines
@@ -24,12 +28,14 @@ pub fn lines(ring: &Ring, steps: &[(usize, usize)]) -> Vec<Line> {
 
 /// A curve through the inside of the ring, a little to the left, so that two
 /// opposite lines are apart.
-fn between(ring: &Ring, rects: &[Rect], from: usize, to: usize) -> Curve {
+fn between(ring: &Ring, rects: &[Rect], from: usize, to: usize, labelled: bool) -> Curve {
     let (begin, end) = (ring.place(from), ring.place(to));
     let middle = begin.plus(end).times(0.5);
     let across = end.minus(begin);
     let aside = across.unit().left().times(10.0 + 0.07 * across.length());
-    let control = middle.times(0.5).plus(aside.times(2.0));
+    let most = if labelled { ring.radius } else { across.length() + 80.0 };
+    let inward = middle.unit().times(-(0.5 * middle.length()).min(most));
+    let control = middle.plus(inward).plus(aside.times(2.0));
     let whole = Curve::bent(begin, control, end);
     let outside = |rect: &Rect, t: f64| !rect.grown(3.0).holds(whole.at(t));
     let steps = || (0..=400).map(|i| f64::from(i) / 400.0);

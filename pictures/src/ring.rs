@@ -4,9 +4,12 @@ use std::f64::consts::PI;
 
 use crate::geometry::{Point, Rect};
 
-/// The room between boxes.
+/// The room between boxes, and between the many of a large ring.
 const GAP: f64 = 16.0;
-/// The room between groups, in boxes.
+const SMALL_GAP: f64 = 10.0;
+/// More boxes than this make a large ring.
+pub const LARGE: usize = 32;
+/// The room beside a group of several boxes, in boxes.
 const GROUP_GAP: f64 = 0.5;
 
 pub struct Ring {
@@ -54,28 +57,38 @@ impl Ring {
 
     fn boxes_overlap(&self) -> bool {
         let count = self.angles.len();
+        let gap = gap(count);
         let near = |i: usize, j: usize| {
-            self.rect(i).grown(GAP / 2.0).overlaps(&self.rect(j).grown(GAP / 2.0))
+            self.rect(i).grown(gap / 2.0).overlaps(&self.rect(j).grown(gap / 2.0))
         };
         (0..count).any(|i| (0..i).any(|j| near(i, j)))
+    }
+}
+
+fn gap(count: usize) -> f64 {
+    if count > LARGE {
+        SMALL_GAP
+    } else {
+        GAP
     }
 }
 
 /// Boxes are further apart where the ring goes along their longer side.
 fn angles(groups: &[usize], width: f64, height: f64) -> Vec<f64> {
     const PARTS: usize = 3600;
+    let count: usize = groups.iter().sum();
+    let gap = gap(count);
     let need = |angle: f64| {
         let along = (angle.cos().abs().max(1e-6), angle.sin().abs().max(1e-6));
-        ((width + GAP) / along.0).min((height + GAP) / along.1)
+        ((width + gap) / along.0).min((height + gap) / along.1)
     };
     let angle = |part: usize| 2.0 * PI * part as f64 / PARTS as f64;
     let total: f64 = (0..PARTS).map(|part| 1.0 / need(angle(part))).sum();
-    let count: usize = groups.iter().sum();
-    let gaps = if groups.len() > 1 { groups.len() as f64 * GROUP_GAP } else { 0.0 };
+    let gaps: f64 = (0..groups.len()).map(|i| gap_after(groups, i)).sum();
     let unit = total / (count as f64 + gaps);
     let mut angles = Vec::new();
     let (mut wanted, mut passed, mut part) = (0.0, 0.0, 0);
-    for group in groups {
+    for (i, group) in groups.iter().enumerate() {
         for _ in 0..*group {
             while passed + 1e-9 < wanted && part < PARTS {
                 passed += 1.0 / need(angle(part));
@@ -84,7 +97,17 @@ fn angles(groups: &[usize], width: f64, height: f64) -> Vec<f64> {
             angles.push(angle(part));
             wanted += unit;
         }
-        wanted += GROUP_GAP * unit;
+        wanted += gap_after(groups, i) * unit;
     }
     angles
+}
+
+/// The room between a group and the next, in boxes: none between single boxes.
+fn gap_after(groups: &[usize], i: usize) -> f64 {
+    let next = groups[(i + 1) % groups.len()];
+    if groups.len() > 1 && groups[i].max(next) > 1 {
+        GROUP_GAP
+    } else {
+        0.0
+    }
 }

@@ -26,16 +26,21 @@ fn examples() -> Vec<Vec<u8>> {
     files
 }
 
-/// A component of 32 states with every successor set of the given size.
-fn full_size(seed: u64, inputs: usize, successors: usize, different_outputs: usize) -> Instrument {
-    let mut prng = Prng::new(seed);
+/// A component of so many states with every successor set of the given size.
+fn full_size(
+    states: usize,
+    inputs: usize,
+    successors: usize,
+    different_outputs: usize,
+) -> Instrument {
+    let mut prng = Prng::new(5);
     let outputs: Vec<usize> = (0..8).collect();
     let level = |s: usize, j: usize| ((s % different_outputs) >> j) & 1 == 1;
     let mut sets = Vec::new();
-    for _ in 0..32 {
+    for _ in 0..states {
         let mut of_state = Vec::new();
         for _ in 0..1 << inputs {
-            let mut set: Vec<usize> = (0..successors).map(|_| prng.below(32)).collect();
+            let mut set: Vec<usize> = (0..successors).map(|_| prng.below(states)).collect();
             set.sort_unstable();
             set.dedup();
             of_state.push(set);
@@ -44,7 +49,7 @@ fn full_size(seed: u64, inputs: usize, successors: usize, different_outputs: usi
     }
     let table = Table {
         inputs: (8..8 + inputs).collect(),
-        levels: (0..32).map(|s| outputs.iter().map(|&j| level(s, j)).collect()).collect(),
+        levels: (0..states).map(|s| outputs.iter().map(|&j| level(s, j)).collect()).collect(),
         outputs,
         successors: sets,
     };
@@ -88,13 +93,48 @@ fn random_instruments() {
 }
 
 #[test]
-fn thirty_two_states() {
-    for (inputs, successors, different_outputs) in
-        [(0, 1, 2), (0, 1, 32), (1, 1, 4), (2, 1, 32), (4, 12, 4), (4, 40, 32)]
-    {
-        let file = write(&full_size(5, inputs, successors, different_outputs));
-        check_drawings(&file);
-        check_apart(&file);
+fn thirty_two_and_sixty_four_states() {
+    for states in [32, 33, 51, 64] {
+        for (inputs, successors, different_outputs) in
+            [(0, 1, 2), (0, 1, states), (1, 1, 4), (2, 1, 32), (4, 12, 4), (4, 40, states)]
+        {
+            let file = write(&full_size(states, inputs, successors, different_outputs));
+            check_drawings(&file);
+            check_apart(&file);
+        }
+    }
+}
+
+/// The classes of 64 states that are all apart have fills that look different.
+#[test]
+fn sixty_four_fills() {
+    let looks: Vec<String> = (0..64)
+        .map(|i| {
+            let fill = pictures::palette::Fill(i);
+            let pattern = fill.definition("page").replace(&format!("page-fill-{i}"), "");
+            if pattern.is_empty() {
+                fill.value("page")
+            } else {
+                pattern
+            }
+        })
+        .collect();
+    for (i, look) in looks.iter().enumerate() {
+        assert!(!looks[..i].contains(look), "fill {i}");
+    }
+}
+
+/// A drawing of 64 states fits on a page: the ring's boxes show their number alone.
+#[test]
+fn a_ring_of_sixty_four_states_is_not_too_large() {
+    for file in [second::examples::counters(&[64]), full_size(64, 0, 1, 64)] {
+        let file = write(&file);
+        let instrument = second::reader::read(&file).expect("a good file").instrument;
+        let components = Component::all(&instrument, &answers(&file)).expect("fitting answers");
+        let graph = Graph::of_states(&components[0]);
+        assert!(graph.is_readable());
+        let bounds = graph.sketch().bounds;
+        assert!(bounds.width() < 1500.0 && bounds.height() < 1500.0, "{bounds:?}");
     }
 }
 

@@ -1,5 +1,7 @@
 //! The bench cases of document 01, and instruments at its limits.
 
+pub mod wide;
+
 use crate::instrument::{Instrument, Node, Table};
 use crate::limits;
 
@@ -31,7 +33,7 @@ pub fn pair_from(first: u8, second: u8) -> Vec<u8> {
 
 /// A component that goes through its states in turn and drives the signal high
 /// in state 0 only.
-fn counter(states: usize, signal: usize) -> Table {
+pub fn counter(states: usize, signal: usize) -> Table {
     Table {
         inputs: vec![],
         outputs: vec![signal],
@@ -79,25 +81,25 @@ pub fn merged_too_large_but_marked() -> Instrument {
     instrument
 }
 
-/// Four counters of 32 states; the root looks one step ahead only. The first has
-/// three classes: state 0, state 31 and the rest. The others have two, by their
+/// Four counters of 64 states; the root looks one step ahead only. The first has
+/// three classes: state 0, state 63 and the rest. The others have two, by their
 /// outputs.
 pub fn full_too_large_merged_small() -> Instrument {
-    let mut instrument = counters(&[32, 32, 32, 32]);
+    let mut instrument = counters(&[64, 64, 64, 64]);
     instrument.nodes = vec![Node::Signal(0), Node::Ex(0), Node::Signal(3), Node::Or(1, 2)];
-    instrument.starts = vec![vec![31, 1, 2, 3], vec![0, 1, 2, 3]];
+    instrument.starts = vec![vec![63, 1, 2, 3], vec![0, 1, 2, 3]];
     instrument
 }
 
-/// A component of 32 states and four inputs in which every successor set takes
-/// five bytes.
+/// A component of 64 states and four inputs in which every successor set takes
+/// ten bytes: it has state 63.
 fn longest_table(inputs: Vec<usize>, outputs: Vec<usize>) -> Table {
     let mut table = Table { inputs, outputs, levels: vec![], successors: vec![] };
     for s in 0..limits::STATES {
         let last = table.outputs.len() - 1;
         // The last output is always high: eight outputs then take two bytes.
         table.levels.push((0..=last).map(|j| j == last || (s + j) % 3 == 0).collect());
-        let set = |assignment: usize| vec![(s + assignment) % 28, 28 + (s * assignment) % 4];
+        let set = |assignment: usize| vec![(s + s * assignment) % 63, 63];
         table.successors.push((0..table.assignments()).map(set).collect());
     }
     table
@@ -115,7 +117,7 @@ pub fn longest() -> Instrument {
     for k in 1..limits::NODES {
         nodes.push(Node::Eu(k / 2, k - 1));
     }
-    let start = |i: usize| vec![i % 32, (i * 5) % 32, (i * 7) % 32, (31 * i) % 32];
+    let start = |i: usize| vec![i % 64, (i * 5) % 64, (i * 7) % 64, (63 * i) % 64];
     let starts = (0..limits::STARTS).map(start).collect();
     Instrument { signals: limits::SIGNALS, tables, nodes, starts }
 }

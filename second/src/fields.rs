@@ -34,7 +34,7 @@ pub enum Place {
 #[derive(Clone, Copy, Debug, PartialEq, Eq)]
 pub struct Field {
     pub place: Place,
-    pub value: u32,
+    pub value: u64,
 }
 
 /// The bytes of the instrument's file.
@@ -70,8 +70,7 @@ pub fn fields(instrument: &Instrument) -> Vec<Field> {
 }
 
 fn add(fields: &mut Vec<Field>, place: Place, value: usize) {
-    let value = u32::try_from(value).expect("a number of the file is below 2^32");
-    fields.push(Field { place, value });
+    fields.push(Field { place, value: value as u64 });
 }
 
 fn add_table(fields: &mut Vec<Field>, c: usize, table: &Table) {
@@ -85,12 +84,12 @@ fn add_table(fields: &mut Vec<Field>, c: usize, table: &Table) {
         add(fields, Place::Output(c, position), signal);
     }
     for levels in &table.levels {
-        add(fields, Place::OutputWord(c), word_of(levels) as usize);
+        fields.push(Field { place: Place::OutputWord(c), value: word_of(levels) });
     }
     for sets in &table.successors {
         for set in sets {
             let members: Vec<bool> = (0..table.states()).map(|t| set.contains(&t)).collect();
-            add(fields, Place::SuccessorSet(c), word_of(&members) as usize);
+            fields.push(Field { place: Place::SuccessorSet(c), value: word_of(&members) });
         }
     }
 }

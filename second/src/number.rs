@@ -2,21 +2,24 @@
 //!
 //! Groups of seven bits, lowest group first; the high bit (128) is set in every
 //! byte but the last. Only the shortest form is good, and values end at
-//! 2^32 - 1: at most five bytes, the fifth at most 15.
+//! 2^64 - 1: at most ten bytes, the tenth at most 1.
 
 use crate::refusal::Refusal;
 
+/// The most bytes of a number.
+pub const MOST_BYTES: usize = 10;
+
 /// Reads the number at the place and answers it with the next place.
-pub fn read_number(file: &[u8], place: usize) -> Result<(u32, usize), Refusal> {
-    let mut value: u64 = 0;
-    let mut weight: u64 = 1;
-    for position in 0..5 {
+pub fn read_number(file: &[u8], place: usize) -> Result<(u64, usize), Refusal> {
+    let mut value: u128 = 0;
+    let mut weight: u128 = 1;
+    for position in 0..MOST_BYTES {
         let byte = match file.get(place + position) {
-            Some(&byte) => u64::from(byte),
+            Some(&byte) => u128::from(byte),
             None => return Err(Refusal::FileEnds),
         };
-        // A fifth byte above 15 is refused at once, whether or not bytes follow.
-        if position == 4 && byte > 15 {
+        // A tenth byte above 1 is refused at once, whether or not bytes follow.
+        if position == MOST_BYTES - 1 && byte > 1 {
             return Err(Refusal::NumberForm);
         }
         value += (byte % 128) * weight;
@@ -26,7 +29,7 @@ pub fn read_number(file: &[u8], place: usize) -> Result<(u32, usize), Refusal> {
             if position > 0 && byte == 0 {
                 return Err(Refusal::NumberForm);
             }
-            let value = u32::try_from(value).expect("the fifth byte is at most 15");
+            let value = u64::try_from(value).expect("the tenth byte is at most 1");
             return Ok((value, place + position + 1));
         }
     }
@@ -34,7 +37,7 @@ pub fn read_number(file: &[u8], place: usize) -> Result<(u32, usize), Refusal> {
 }
 
 /// The shortest form of a number.
-pub fn write_number(value: u32) -> Vec<u8> {
+pub fn write_number(value: u64) -> Vec<u8> {
     let mut bytes = Vec::new();
     let mut rest = value;
     loop {

@@ -12,7 +12,7 @@ use crate::reading::Reading;
 use crate::refusal::Refusal;
 use crate::truth::truth;
 use crate::verdict::{verdict, Verdict};
-use crate::word::{bit, word_of};
+use crate::word::{bit, word_of, word_of_nodes};
 
 /// An accepted file with what the bench computed of it.
 pub struct Queries {
@@ -43,12 +43,12 @@ impl Queries {
         }
         let combination = Combination::of(&instrument.tables, instrument.signals, self.reading);
         let truth = truth(&combination, &instrument.nodes, self.reading);
-        let word = |i: usize| word_of(&truth.iter().map(|node| node[i]).collect::<Vec<bool>>());
-        Ok((0..combination.size()).map(word).collect())
+        let bits = |i: usize| truth.iter().map(|node| node[i]).collect::<Vec<bool>>();
+        Ok((0..combination.size()).map(|i| word_of_nodes(&bits(i))).collect())
     }
 
     /// Two words for every component and node, PASS then FAIL, components outermost.
-    pub fn marks(&self) -> Vec<u32> {
+    pub fn marks(&self) -> Vec<u64> {
         let mut words = Vec::new();
         for component in &self.bench.marks {
             for marks in component {
@@ -61,7 +61,7 @@ impl Queries {
 
     /// One byte per state, components in order: the name of its class.
     pub fn classes(&self) -> Vec<u8> {
-        let byte = |name: &usize| u8::try_from(*name).expect("a state number is below 32");
+        let byte = |name: &usize| u8::try_from(*name).expect("a state number is below 64");
         self.bench.names.iter().flatten().map(byte).collect()
     }
 

@@ -47,15 +47,21 @@ pub fn read(file: &[u8]) -> Result<Accepted, Refusal> {
 }
 
 impl Reader<'_> {
-    fn number(&mut self) -> Result<u32, Refusal> {
+    fn number(&mut self) -> Result<u64, Refusal> {
         let (value, next_place) = read_number(self.file, self.place)?;
         self.place = next_place;
         Ok(value)
     }
 
+    /// A number to be compared with a limit. One that is no `usize` is above
+    /// every limit, and so is the largest one that is.
+    fn limited(&mut self) -> Result<usize, Refusal> {
+        Ok(usize::try_from(self.number()?).unwrap_or(usize::MAX))
+    }
+
     /// A count; 3 if it is outside its range.
     fn count(&mut self, range: RangeInclusive<usize>) -> Result<usize, Refusal> {
-        let value = self.number()? as usize;
+        let value = self.limited()?;
         if range.contains(&value) {
             Ok(value)
         } else {
@@ -95,7 +101,7 @@ impl Reader<'_> {
 
     /// A listed signal: below W and above those listed before it, else 4.
     fn listed_signal(&mut self, signals: usize, listed: &[usize]) -> Result<usize, Refusal> {
-        let signal = self.number()? as usize;
+        let signal = self.limited()?;
         let ascending = listed.iter().all(|&before| before < signal);
         if signal < signals && ascending {
             Ok(signal)
@@ -142,7 +148,7 @@ impl Reader<'_> {
 
     /// A signal node's operand: driven by some component, else 8.
     fn named_signal(&mut self, tables: &[Table]) -> Result<usize, Refusal> {
-        let signal = self.number()? as usize;
+        let signal = self.limited()?;
         if tables.iter().any(|table| table.drives(signal)) {
             Ok(signal)
         } else {
@@ -152,7 +158,7 @@ impl Reader<'_> {
 
     /// An operand of node k: an earlier node, else 7.
     fn operand(&mut self, k: usize) -> Result<usize, Refusal> {
-        let operand = self.number()? as usize;
+        let operand = self.limited()?;
         if operand < k {
             Ok(operand)
         } else {
@@ -165,7 +171,7 @@ impl Reader<'_> {
         for _ in 0..self.count(0..=limits::STARTS)? {
             let mut start = Vec::new();
             for table in tables {
-                let state = self.number()? as usize;
+                let state = self.limited()?;
                 if state >= table.states() {
                     return Err(Refusal::StateNotInComponent);
                 }

@@ -1,7 +1,8 @@
 //! The bench cases of document 01, as printed there.
 
+use second::answer::answer;
 use second::combination;
-use second::examples::{all_to_zero, chain_with, counters, longest, pair_from, CHAIN, PAIR};
+use second::examples::{all_to_zero, chain_with, counters, longest, pair_from, wide, CHAIN, PAIR};
 use second::fields::write;
 use second::instrument::{Instrument, Node};
 use second::limits;
@@ -18,7 +19,7 @@ fn verdict(file: &[u8]) -> String {
 }
 
 /// PASS and FAIL words of the only component for the root.
-fn root_marks(queries: &Queries) -> (u32, u32) {
+fn root_marks(queries: &Queries) -> (u64, u64) {
     let words = queries.marks();
     (words[words.len() - 2], words[words.len() - 1])
 }
@@ -83,17 +84,65 @@ fn shortest_files() {
 }
 
 #[test]
-fn thirty_two_and_thirty_three_states() {
-    assert!(read(&write(&all_to_zero(32))).is_ok());
-    assert_eq!(read(&write(&all_to_zero(33))).err(), Some(Refusal::CountOutsideRange));
+fn sixty_four_and_sixty_five_states() {
+    assert!(read(&write(&all_to_zero(64))).is_ok());
+    assert_eq!(read(&write(&all_to_zero(65))).err(), Some(Refusal::CountOutsideRange));
+}
+
+#[test]
+fn marks_of_sixty_four_states() {
+    let words = queries(&write(&wide::marked_all(64))).marks();
+    // true and not true.
+    assert_eq!(words[..4], [u64::MAX, 0, 0, u64::MAX]);
+    // The counter's signal: high in state 0 only.
+    assert_eq!(words[18..20], [1, u64::MAX - 1]);
+    assert!(words[..18].iter().all(|&word| word == 0 || word == u64::MAX));
+}
+
+#[test]
+fn a_stage_of_fifty_one_states() {
+    let queries = queries(&write(&wide::stage()));
+    // EX at the end: from state 49 while the lid is shut, from the end while it is not.
+    let full = queries.full().expect("full words");
+    let one_step_to_the_end: Vec<usize> = (0..102).filter(|&i| full[i] & 32 != 0).collect();
+    assert_eq!(one_step_to_the_end, vec![49, 51 + 50]);
+    // Some path reaches the end from everywhere, but a lid that stays open holds it up.
+    assert!(full.iter().all(|word| word & 4 != 0));
+    assert_eq!(queries.marks()[2 * 2], 1 << 50);
+}
+
+#[test]
+fn the_guard_at_a_class_above_32() {
+    let queries = queries(&write(&wide::guarded_pair()));
+    assert_eq!(queries.bench.names[1][60..], [60, 61, 61, 63]);
+    // EG is false in every merged state, and no node is left out of the words.
+    let merged = queries.merged().expect("merged words");
+    assert_eq!(merged.len(), 2 * 63);
+    assert!(merged.iter().all(|word| word >> 8 & 1 == 0));
+}
+
+#[test]
+fn every_state_of_a_long_way_is_apart() {
+    let queries = queries(&write(&wide::chain_from_last()));
+    assert_eq!(queries.bench.names[0], (0..64).collect::<Vec<usize>>());
+}
+
+#[test]
+fn the_largest_words_are_printed() {
+    let text = answer("marks", &Queries::of(&write(&wide::marked_all(64))));
+    assert!(text.starts_with("component 0 node 0 PASS 18446744073709551615 FAIL 0\n"));
 }
 
 #[test]
 fn sizes_that_combine_and_that_do_not() {
-    let words = queries(&write(&counters(&[32, 32, 4]))).full().expect("full words");
-    assert_eq!(words.len(), 4096);
-    let too_large = queries(&write(&counters(&[32, 32, 5])));
-    assert_eq!(too_large.full(), Err(Refusal::FullTooLarge));
+    for sizes in [&[32, 32, 4][..], &[64, 64]] {
+        let words = queries(&write(&counters(sizes))).full().expect("full words");
+        assert_eq!(words.len(), 4096);
+    }
+    for sizes in [[32, 32, 5], [64, 64, 2]] {
+        let too_large = queries(&write(&counters(&sizes)));
+        assert_eq!(too_large.full(), Err(Refusal::FullTooLarge));
+    }
 }
 
 #[test]
@@ -153,5 +202,5 @@ fn small_merged_combination_of_a_large_full_one() {
     assert_eq!(queries.full(), Err(Refusal::FullTooLarge));
     let listing = queries.listing().expect("a listing");
     assert!(listing.starts_with("verdict fails merged\n"));
-    assert!(listing.ends_with("merged 24 of 1048576\n"));
+    assert!(listing.ends_with("merged 24 of 16777216\n"));
 }

@@ -104,7 +104,7 @@ refused 1
 }
 
 #[test]
-fn the_first_16385_bytes_have_the_answers_of_the_file() {
+fn the_first_49153_bytes_have_the_answers_of_the_file() {
     let mut longer = 0;
     for case in made().iter().filter(|case| case.file.len() > BYTES_READ) {
         assert_eq!(case.read().len(), BYTES_READ);

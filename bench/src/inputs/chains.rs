@@ -1,17 +1,19 @@
-//! A chain of 4,096 states as a combination of three counters: in order, in reverse and shuffled.
+//! A chain of 4,096 states as a combination of counters: in order, in reverse and shuffled.
 
 use super::formulas::{nested, reaching};
 use super::Input;
 use second::instrument::{Instrument, Node, Table};
 use second::prng::Prng;
 
-const SIZES: [usize; 3] = [32, 32, 4];
+/// The counters' states, with the word for them in the names of inputs: three counters, and two
+/// of 64 states beside one that has a single state.
+const SIZES: [(&str, [usize; 3]); 2] = [("chain", [32, 32, 4]), ("chain 64 x 64", [64, 64, 1])];
 
 /// Counter c counts on where all lower counters are at their ends, and stays where all are. It
 /// drives signal c at its end and reads the others'. `place[c][v]` is the state where it has
 /// counted to v.
 fn counter(c: usize, place: &[Vec<usize>; 3]) -> Table {
-    let states = SIZES[c];
+    let states = place[c].len();
     let inputs: Vec<usize> = (0..3).filter(|&other| other != c).collect();
     let mut levels = vec![vec![]; states];
     let mut successors = vec![vec![]; states];
@@ -65,16 +67,19 @@ fn shuffled(prng: &mut Prng, count: usize) -> Vec<usize> {
 }
 
 pub fn inputs() -> Vec<Input> {
-    let mut prng = Prng::new(40);
-    let forward = SIZES.map(|size| (0..size).collect::<Vec<_>>());
-    let backward = SIZES.map(|size| (0..size).rev().collect::<Vec<_>>());
-    let mixed = SIZES.map(|size| shuffled(&mut prng, size));
     let mut inputs = Vec::new();
-    for (word, place) in [("in order", forward), ("in reverse", backward), ("shuffled", mixed)] {
-        let few = chain(place.clone(), at_the_end(reaching(0)));
-        inputs.push(Input::new(format!("chain {word}, EU and EG at its end"), &few));
-        let nest = chain(place, nested(&[0, 1, 2], 24));
-        inputs.push(Input::new(format!("chain {word}, 24 nodes nested"), &nest));
+    for (counters, sizes) in SIZES {
+        let mut prng = Prng::new(40);
+        let forward = sizes.map(|size| (0..size).collect::<Vec<_>>());
+        let backward = sizes.map(|size| (0..size).rev().collect::<Vec<_>>());
+        let mixed = sizes.map(|size| shuffled(&mut prng, size));
+        for (word, place) in [("in order", forward), ("in reverse", backward), ("shuffled", mixed)]
+        {
+            let few = chain(place.clone(), at_the_end(reaching(0)));
+            inputs.push(Input::new(format!("{counters} {word}, EU and EG at its end"), &few));
+            let nest = chain(place, nested(&[0, 1, 2], 24));
+            inputs.push(Input::new(format!("{counters} {word}, 24 nodes nested"), &nest));
+        }
     }
     inputs
 }

@@ -53,28 +53,28 @@ fn started(prng: &mut Prng, tables: Vec<Table>, count: usize) -> Instrument {
     Instrument { signals: 12, nodes: nested(&[0, 2, 4, 6], count), starts, tables }
 }
 
-/// Of the greatest length: 32 states, 16 assignments, full sets, 64 starts; the root is true.
+/// Of the greatest length: 64 states, 16 assignments, full sets, 64 starts; the root is true.
 fn longest() -> Instrument {
     let table = |c: usize| Table {
         inputs: vec![8, 9, 10, 11],
         outputs: vec![2 * c, 2 * c + 1],
-        levels: vec![vec![true; 2]; 32],
-        successors: vec![vec![(0..32).collect(); 16]; 32],
+        levels: vec![vec![true; 2]; 64],
+        successors: vec![vec![(0..64).collect(); 16]; 64],
     };
     let tables = (0..4).map(table).collect();
-    Instrument { signals: 12, tables, nodes: vec![Node::True], starts: vec![vec![31; 4]; 64] }
+    Instrument { signals: 12, tables, nodes: vec![Node::True], starts: vec![vec![63; 4]; 64] }
 }
 
 pub fn inputs() -> Vec<Input> {
     let mut inputs = Vec::new();
     for (word, share) in [("sparse", 0), ("dense", 16)] {
-        for (states, nodes) in [(8, 24), (16, 24), (32, 6), (32, 12), (32, 24)] {
+        for (states, nodes) in [(8, 24), (16, 24), (32, 6), (32, 12), (32, 24), (64, 24)] {
             let mut prng = Prng::new(states as u64);
             let tables = four(&mut prng, states, share);
             let name = format!("random 4 x {states}, {word}, {nodes} nodes");
             inputs.push(Input::new(name, &started(&mut prng, tables, nodes)));
         }
-        for (states, times) in [(8, 4), (2, 16)] {
+        for (states, times) in [(8, 4), (2, 16), (8, 8), (2, 32)] {
             let mut prng = Prng::new(5);
             let tables = four(&mut prng, states, share);
             let tables = tables.iter().map(|table| cloned(&mut prng, table, times)).collect();

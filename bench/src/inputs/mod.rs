@@ -27,6 +27,11 @@ impl Input {
         }
         Input { name: name.into(), file: fields::write(instrument), asked }
     }
+
+    /// How many combined states there are.
+    pub fn states(&self) -> u64 {
+        self.asked.iter().map(|&last| u64::from(last) + 1).product()
+    }
 }
 
 /// The inputs of the full way, in the order of the table.

@@ -7,6 +7,7 @@ use super::Input;
 use second::instrument::{Instrument, Table};
 
 const SIZES: [usize; 3] = [4, 32, 32];
+const WIDE_SIZES: [usize; 3] = [1, 64, 64];
 
 /// Two external signals, 3 and 4, choose which component goes up: those above it stay, those below
 /// go anywhere. A component at its end hands the choice to the next; at all ends, all stay.
@@ -16,9 +17,8 @@ fn goes_up(asked: usize, ends: [bool; 3]) -> Option<usize> {
 }
 
 /// Component c drives signal c at its end and reads the two others' and both external signals.
-fn table(c: usize) -> Table {
+fn table(c: usize, states: usize) -> Table {
     let others: Vec<usize> = (0..3).filter(|&other| other != c).collect();
-    let states = SIZES[c];
     let successors = |s: usize, assignment: usize| -> Vec<usize> {
         let mut ends = [false; 3];
         ends[c] = s == states - 1;
@@ -39,25 +39,34 @@ fn table(c: usize) -> Table {
     }
 }
 
-/// EG of "component 2 is not at its end", which leaves out the last 128 states.
-fn order(mut tables: Vec<Table>, more: Option<Table>, starts: Vec<Vec<usize>>) -> Instrument {
+/// EG of "component 2 is not at its end", which leaves out the last 128 states, or the last 64.
+fn order(sizes: [usize; 3], more: Option<Table>, starts: Vec<Vec<usize>>) -> Instrument {
+    let mut tables: Vec<Table> = (0..3).map(|c| table(c, sizes[c])).collect();
     tables.extend(more);
     Instrument { signals: 5, tables, nodes: only_eg(2), starts }
 }
 
 pub fn inputs() -> Vec<Input> {
-    let instrument = order((0..3).map(table).collect(), None, vec![]);
-    vec![Input::new("total order, 22 EG over one signal", &instrument)]
+    let of = |name: &str, sizes| Input::new(name, &order(sizes, None, vec![]));
+    vec![
+        of("total order, 22 EG over one signal", SIZES),
+        of("total order 64 x 64, 22 EG over one signal", WIDE_SIZES),
+    ]
 }
 
-/// Beside it a component of 32 states in one class, so that the full way has too many.
+/// Beside it a component of one class, so that the full way has too many.
 pub fn short_inputs() -> Vec<Input> {
-    let still = Table {
-        inputs: vec![],
-        outputs: vec![],
-        levels: vec![vec![]; 32],
-        successors: vec![vec![(0..32).collect()]; 32],
+    let of = |name: &str, sizes, states: usize| {
+        let still = Table {
+            inputs: vec![],
+            outputs: vec![],
+            levels: vec![vec![]; states],
+            successors: vec![vec![(0..states).collect()]; states],
+        };
+        Input::new(name, &order(sizes, Some(still), vec![vec![0; 4]; 64]))
     };
-    let instrument = order((0..3).map(table).collect(), Some(still), vec![vec![0; 4]; 64]);
-    vec![Input::new("merged to a total order, 22 EG over one signal", &instrument)]
+    vec![
+        of("merged to a total order, 22 EG over one signal", SIZES, 32),
+        of("merged to a total order 64 x 64, 22 EG over one signal", WIDE_SIZES, 64),
+    ]
 }

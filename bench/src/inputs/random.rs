@@ -76,10 +76,13 @@ fn eight(inputs: Vec<Vec<usize>>, share: usize, seed: u64) -> Instrument {
 pub fn inputs() -> Vec<Input> {
     let ring = || (0..4).map(|c| vec![(c + 1) % 4]).collect::<Vec<_>>();
     let three = || (0..3).map(|c| vec![(c + 1) % 3]).collect::<Vec<_>>();
+    let two = || vec![vec![1], vec![0]];
     let mut inputs = Vec::new();
     for (word, share) in [("sparse", 0), ("dense", 16), ("full", 32)] {
         let wide = Shape { sizes: vec![32, 32, 4], inputs: three(), share, seed: 10 };
         inputs.push(Input::new(format!("32 x 32 x 4, {word}, no external"), &random(&wide)));
+        let wider = Shape { sizes: vec![64, 64], inputs: two(), share, seed: 12 };
+        inputs.push(Input::new(format!("64 x 64, {word}, no external"), &random(&wider)));
         let four = eight(ring(), share, 11);
         inputs.push(Input::new(format!("8 x 8 x 8 x 8, {word}, no external"), &four));
     }
@@ -90,7 +93,7 @@ pub fn inputs() -> Vec<Input> {
             inputs.push(Input::new(name, &instrument));
         }
     }
-    for sizes in [vec![1, 32, 32, 4], vec![1, 4, 32, 32]] {
+    for sizes in [vec![1, 32, 32, 4], vec![1, 4, 32, 32], vec![1, 64, 64, 1], vec![1, 1, 64, 64]] {
         let words: Vec<String> = sizes.iter().map(usize::to_string).collect();
         let name = format!("{}, full, external: 8 by two", words.join(" x "));
         let thin = Shape { sizes, inputs: external(0, 8), share: 32, seed: 31 };

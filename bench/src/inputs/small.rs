@@ -21,8 +21,10 @@ fn chain() -> Instrument {
 
 pub fn inputs() -> Vec<Input> {
     let ring = |c: usize| vec![(c + 1) % 4];
-    let wide =
-        Shape { sizes: vec![32; 4], inputs: vec![vec![8, 9, 10, 11]; 4], share: 32, seed: 5 };
+    let read = |states: usize| {
+        let inputs = vec![vec![8, 9, 10, 11]; 4];
+        random(&Shape { sizes: vec![states; 4], inputs, share: 32, seed: 5 })
+    };
     let of = |sizes: Vec<usize>, share, seed| {
         let inputs = (0..sizes.len()).map(|c| if sizes.len() == 4 { ring(c) } else { vec![8] });
         Shape { inputs: inputs.collect(), sizes, share, seed }
@@ -33,6 +35,9 @@ pub fn inputs() -> Vec<Input> {
         Input::new("64 states, dense, 24 nodes", &random(&of(vec![8, 8], 16, 2))),
         Input::new("512 states, sparse, 24 nodes", &random(&of(vec![8, 4, 4, 4], 0, 3))),
         Input::new("512 states, dense, 24 nodes", &random(&of(vec![8, 4, 4, 4], 16, 4))),
-        Input::new("only read: 32 x 32 x 32 x 32, 4 inputs each, refused 11", &random(&wide)),
+        Input::new("64 states of one component, sparse, 24 nodes", &random(&of(vec![64], 0, 6))),
+        Input::new("64 states of one component, dense, 24 nodes", &random(&of(vec![64], 16, 7))),
+        Input::new("only read: 32 x 32 x 32 x 32, 4 inputs each, refused 11", &read(32)),
+        Input::new("only read: 64 x 64 x 64 x 64, 4 inputs each, refused 11", &read(64)),
     ]
 }

@@ -73,20 +73,27 @@ pub fn inputs() -> Vec<Input> {
     let mut add = |name: String, sizes: [usize; 4], up: bool, nodes: Vec<Node>| {
         inputs.push(Input::new(name, &chains(sizes, up, nodes)));
     };
-    for states in [8, 16, 32] {
+    for states in [8, 16, 32, 64] {
         let sizes = [states; 4];
         add(format!("chains 4 x {states}, marks of EU, up"), sizes, true, reached());
         add(format!("chains 4 x {states}, marks of EU, down"), sizes, false, reached());
         add(format!("chains 4 x {states}, marks of EG"), sizes, true, avoided());
     }
-    for (states, count) in [(8, 24), (16, 24), (32, 8), (32, 16), (32, 24)] {
+    for (states, count) in [(8, 24), (16, 24), (32, 8), (32, 16), (32, 24), (64, 24)] {
         let name = format!("chains 4 x {states}, relations of EU, {count} nodes");
         add(name, [states; 4], true, told_apart(count));
     }
-    let name = "chains 4 x 32, relations of EU, 24 nodes needed".to_string();
-    add(name, [32; 4], true, needed());
-    let name = "chains 32 x 32 x 2 x 2, 4,096 merged states".to_string();
-    add(name, [32, 32, 2, 2], true, told_apart(24));
-    add("chains 4 x 32, root true, 23 nodes unneeded".to_string(), [32; 4], true, unneeded());
+    for states in [32, 64] {
+        let name = format!("chains 4 x {states}, relations of EU, 24 nodes needed");
+        add(name, [states; 4], true, needed());
+    }
+    for sizes in [[32, 32, 2, 2], [64, 16, 2, 2]] {
+        let word = sizes.map(|states| states.to_string()).join(" x ");
+        add(format!("chains {word}, 4,096 merged states"), sizes, true, told_apart(24));
+    }
+    for states in [32, 64] {
+        let name = format!("chains 4 x {states}, root true, 23 nodes unneeded");
+        add(name, [states; 4], true, unneeded());
+    }
     inputs
 }

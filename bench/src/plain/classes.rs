@@ -2,21 +2,21 @@
 
 use super::instrument::Table;
 use super::marks::Mark;
-use super::words::{below, members};
+use super::words::{below, members, StateSet, MOST_STATES};
 
-pub type Relation = [u32; 32];
+pub type Relation = [StateSet; MOST_STATES];
 
 /// Every state is related to every state.
 pub fn everything(table: &Table) -> Relation {
-    let mut rows = [0; 32];
+    let mut rows = [0; MOST_STATES];
     rows[..table.states].fill(table.all());
     rows
 }
 
 /// States of the same level are related.
-pub fn same_level(table: &Table, high: u32) -> Relation {
+pub fn same_level(table: &Table, high: StateSet) -> Relation {
     let low = table.all() & !high;
-    let mut rows = [0; 32];
+    let mut rows = [0; MOST_STATES];
     for (x, row) in rows[..table.states].iter_mut().enumerate() {
         *row = if high >> x & 1 == 1 { high } else { low };
     }
@@ -30,7 +30,7 @@ pub fn both(a: &Relation, b: &Relation) -> Relation {
 
 /// The converse relation.
 fn converse(table: &Table, rows: &Relation) -> Relation {
-    let mut columns = [0; 32];
+    let mut columns = [0; MOST_STATES];
     for (x, &row) in rows[..table.states].iter().enumerate() {
         members(row).for_each(|y| columns[y] |= 1 << x);
     }
@@ -41,13 +41,13 @@ fn converse(table: &Table, rows: &Relation) -> Relation {
 struct Rule<'a> {
     table: &'a Table,
     mark: Mark,
-    live: u32,
+    live: StateSet,
 }
 
 impl Rule<'_> {
     /// Of the states in `among` those of which, on every assignment, each live successor has a
     /// related successor of x.
-    fn matched(&self, related: &Relation, x: usize, among: u32) -> u32 {
+    fn matched(&self, related: &Relation, x: usize, among: StateSet) -> StateSet {
         let mut kept = among;
         for (a, &w) in self.table.row(x).iter().enumerate() {
             if kept == 0 {
@@ -66,20 +66,20 @@ impl Rule<'_> {
     }
 
     /// The states that are PASS with x, or FAIL with x.
-    fn same_mark(&self, x: usize) -> u32 {
-        let with = |set: u32| if set >> x & 1 == 1 { set } else { 0 };
+    fn same_mark(&self, x: usize) -> StateSet {
+        let with = |set: StateSet| if set >> x & 1 == 1 { set } else { 0 };
         with(self.mark.pass) | with(self.mark.fail)
     }
 
     /// Of the states in `among` those with the outputs of x.
-    fn same_outputs(&self, x: usize, among: u32) -> u32 {
+    fn same_outputs(&self, x: usize, among: StateSet) -> StateSet {
         let words = &self.table.words;
         members(among).filter(|&y| words[x] == words[y]).fold(0, |set, y| set | 1 << y)
     }
 }
 
 /// The relation of EX: what the operand relates and the rule by it keeps.
-pub fn ex(table: &Table, operand: &Relation, mark: Mark, operand_fail: u32) -> Relation {
+pub fn ex(table: &Table, operand: &Relation, mark: Mark, operand_fail: StateSet) -> Relation {
     let rule = Rule { table, mark, live: table.all() & !operand_fail };
     let opposite = converse(table, operand);
     let columns = std::array::from_fn(|x| match x < table.states {
@@ -97,7 +97,7 @@ pub fn ex(table: &Table, operand: &Relation, mark: Mark, operand_fail: u32) -> R
 
 /// For each state, those that have it as a successor on some assignment.
 fn predecessors(table: &Table) -> Relation {
-    let mut before = [0; 32];
+    let mut before = [0; MOST_STATES];
     for x in 0..table.states {
         let successors = table.row(x).iter().fold(0, |all, w| all | w);
         for t in members(successors) {
@@ -108,7 +108,7 @@ fn predecessors(table: &Table) -> Relation {
 }
 
 /// The lowest member from x on, or else the lowest.
-fn next(set: u32, x: usize) -> usize {
+fn next(set: StateSet, x: usize) -> usize {
     let later = set & !below(x);
     (if later != 0 { later } else { set }).trailing_zeros() as usize
 }
@@ -118,7 +118,7 @@ struct Half {
     rows: Relation,
     again: Relation,
     /// The rows where there are such pairs.
-    left: u32,
+    left: StateSet,
 }
 
 /// Looks at row x of one half. Pairs that fail go out of both halves, and pairs of their

@@ -1,6 +1,6 @@
 //! Crate instrument: what a good file holds.
 
-use super::words::below;
+use super::words::{below, StateSet};
 
 /// A component's table: inputs and outputs are signal numbers, sets are words.
 pub struct Table {
@@ -10,25 +10,25 @@ pub struct Table {
     /// For each state, the word of its outputs.
     pub words: Vec<u32>,
     /// State by state and assignment by assignment, the successor set.
-    pub nexts: Vec<u32>,
+    pub nexts: Vec<StateSet>,
 }
 
 impl Table {
     /// The set of all states.
-    pub fn all(&self) -> u32 {
+    pub fn all(&self) -> StateSet {
         below(self.states)
     }
 
     /// The successor sets of a state, one for each assignment.
-    pub fn row(&self, state: usize) -> &[u32] {
+    pub fn row(&self, state: usize) -> &[StateSet] {
         &self.nexts[state << self.inputs.len()..][..1 << self.inputs.len()]
     }
 
     /// The states that drive a signal high, if it is an output.
-    pub fn driving(&self, signal: u32) -> Option<u32> {
+    pub fn driving(&self, signal: u32) -> Option<StateSet> {
         let j = self.outputs.iter().position(|&output| output == signal)?;
         let high = self.words.iter().enumerate();
-        Some(high.fold(0, |set, (x, word)| set | (word >> j & 1) << x))
+        Some(high.fold(0, |set, (x, word)| set | StateSet::from(word >> j & 1) << x))
     }
 }
 

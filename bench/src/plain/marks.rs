@@ -1,40 +1,41 @@
-//! Crate marks: PASS and FAIL of the components' states, node by node, from each table alone.
+//! Crates mark_rules and marks: PASS and FAIL of the components' states, node by node, from each table alone.
 
 use super::instrument::{Instrument, Node, Table};
+use super::words::StateSet;
 
 /// The marks of a component at a node, as sets of states.
 #[derive(Clone, Copy)]
 pub struct Mark {
-    pub pass: u32,
-    pub fail: u32,
+    pub pass: StateSet,
+    pub fail: StateSet,
 }
 
 /// Whether a state's successor sets, one for each assignment, meet a set as they have to.
-type Meeting = fn(&[u32], u32) -> bool;
+type Meeting = fn(&[StateSet], StateSet) -> bool;
 
 /// On every assignment.
-fn always(row: &[u32], set: u32) -> bool {
+fn always(row: &[StateSet], set: StateSet) -> bool {
     row.iter().all(|w| w & set != 0)
 }
 
 /// On some assignment.
-fn sometimes(row: &[u32], set: u32) -> bool {
+fn sometimes(row: &[StateSet], set: StateSet) -> bool {
     row.iter().any(|w| w & set != 0)
 }
 
 /// The states that have a successor in the set.
 #[inline(always)]
-fn preimage(table: &Table, set: u32, meets: Meeting) -> u32 {
+fn preimage(table: &Table, set: StateSet, meets: Meeting) -> StateSet {
     let mut found = 0;
     for (x, row) in table.nexts.chunks_exact(1 << table.inputs.len()).enumerate() {
-        found |= u32::from(meets(row, set)) << x;
+        found |= StateSet::from(meets(row, set)) << x;
     }
     found
 }
 
 /// The largest set inside `keep` whose members have a successor in it.
 #[inline(always)]
-fn largest(table: &Table, keep: u32, meets: Meeting) -> u32 {
+fn largest(table: &Table, keep: StateSet, meets: Meeting) -> StateSet {
     let mut current = keep;
     loop {
         let kept = current & preimage(table, current, meets);
@@ -47,7 +48,7 @@ fn largest(table: &Table, keep: u32, meets: Meeting) -> u32 {
 
 /// The least set that holds the goal and each state of `through` that has a successor in it.
 #[inline(always)]
-fn least(table: &Table, through: u32, goal: u32, meets: Meeting) -> u32 {
+fn least(table: &Table, through: StateSet, goal: StateSet, meets: Meeting) -> StateSet {
     let mut current = goal;
     loop {
         let grown = current | through & preimage(table, current, meets);

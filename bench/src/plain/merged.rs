@@ -4,10 +4,11 @@ use super::instrument::Instrument;
 use super::labels::{write_truth, Bars};
 use super::marks::Mark;
 use super::merging::{lowest_states, merge, merged_index};
+use super::words::StateSet;
 
 /// Of each component's classes, those that are FAIL of each node.
 fn class_bars(names: &[Vec<u8>], marks: &[Vec<Mark>]) -> Bars {
-    let classes = |names: &[u8], fail: u32| {
+    let classes = |names: &[u8], fail: StateSet| {
         let lowest = lowest_states(names).enumerate();
         lowest.fold(0, |set, (c, x)| set | (fail >> x & 1) << c)
     };

@@ -12,6 +12,7 @@ use super::refusal::Refusal;
 use super::relations::all_classes;
 use super::report::listing_text;
 use super::verdict::{by_marks, by_merged, Verdict};
+use super::words::StateSet;
 
 /// The largest combination that is built.
 const MOST_STATES: usize = 4096;
@@ -44,7 +45,7 @@ pub fn full_words(file: &[u8], out: &mut [u32]) -> u64 {
 
 /// Two words for every component and node, PASS then FAIL, components outermost.
 #[inline(never)]
-pub fn mark_words(file: &[u8], out: &mut [u32]) -> u64 {
+pub fn mark_words(file: &[u8], out: &mut [StateSet]) -> u64 {
     let write = |instrument: Instrument| {
         let count = 2 * instrument.tables.len() * instrument.nodes.len();
         let out = room(out, count)?;

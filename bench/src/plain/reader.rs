@@ -2,7 +2,7 @@
 
 use super::instrument::{Instrument, Node, Table};
 use super::refusal::Refusal;
-use super::words::below;
+use super::words::{below, StateSet, MOST_STATES};
 
 type Read<T> = Result<T, Refusal>;
 
@@ -13,7 +13,7 @@ struct Reader<'a> {
 
 pub fn read(file: &[u8]) -> Read<Instrument> {
     let mut reader = Reader { file, at: 0 };
-    let components = reader.between(1, 4, Refusal::Range)?;
+    let components = reader.count(1, 4)?;
     let signals = reader.between(0, 12, Refusal::Range)?;
     let mut driven = 0;
     let mut tables = Vec::with_capacity(4);
@@ -30,23 +30,23 @@ pub fn read(file: &[u8]) -> Read<Instrument> {
 
 impl Reader<'_> {
     /// The number at this place: groups of seven bits, lowest first, shortest form only.
-    fn number(&mut self) -> Read<u32> {
+    fn number(&mut self) -> Read<u64> {
         let mut value = 0;
-        for shift in [0, 7, 14, 21, 28] {
+        for shift in [0, 7, 14, 21, 28, 35, 42, 49, 56, 63] {
             let byte = *self.file.get(self.at).ok_or(Refusal::Ended)?;
-            if shift == 28 && byte > 15 {
+            if shift == 63 && byte > 1 {
                 return Err(Refusal::Form);
             }
             self.at += 1;
-            value |= u32::from(byte & 127) << shift;
+            value |= u64::from(byte & 127) << shift;
             if byte < 128 {
                 return if byte == 0 && shift > 0 { Err(Refusal::Form) } else { Ok(value) };
             }
         }
-        unreachable!("a fifth byte is at most 15")
+        unreachable!("a tenth byte is at most 1")
     }
 
-    fn between(&mut self, lo: u32, hi: u32, cause: Refusal) -> Read<u32> {
+    fn between(&mut self, lo: u64, hi: u64, cause: Refusal) -> Read<u64> {
         let value = self.number()?;
         if value < lo || hi < value {
             return Err(cause);
@@ -54,10 +54,15 @@ impl Reader<'_> {
         Ok(value)
     }
 
+    /// A count, at most `hi`.
+    fn count(&mut self, lo: u64, hi: u64) -> Read<usize> {
+        Ok(self.between(lo, hi, Refusal::Range)? as usize)
+    }
+
     /// A list of signals, strictly ascending, none in `taken`, and the set of them.
-    fn ports(&mut self, most: u32, signals: u32, taken: u32) -> Read<(Vec<u32>, u32)> {
-        let count = self.between(0, most, Refusal::Range)?;
-        let mut list = Vec::with_capacity(count as usize);
+    fn ports(&mut self, most: u64, signals: u64, taken: u32) -> Read<(Vec<u32>, u32)> {
+        let count = self.count(0, most)?;
+        let mut list = Vec::with_capacity(count);
         let mut set = 0;
         let mut low = 0;
         for _ in 0..count {
@@ -68,51 +73,60 @@ impl Reader<'_> {
             if taken >> signal & 1 == 1 {
                 return Err(Refusal::Driven);
             }
-            list.push(signal);
+            list.push(signal as u32);
             set |= 1 << signal;
             low = signal + 1;
         }
         Ok((list, set))
     }
 
-    fn words(&mut self, count: usize, lo: u32, hi: u32) -> Read<Vec<u32>> {
-        let mut words = Vec::with_capacity(count);
-        for _ in 0..count {
-            words.push(self.between(lo, hi, Refusal::Bits)?);
+    /// An output word for each state.
+    fn words(&mut self, states: usize, outputs: usize) -> Read<Vec<u32>> {
+        let mut words = Vec::with_capacity(states);
+        for _ in 0..states {
+            words.push(self.between(0, below(outputs), Refusal::Bits)? as u32);
         }
         Ok(words)
     }
 
-    fn table(&mut self, signals: u32, driven: &mut u32) -> Read<Table> {
-        let states = self.between(1, 32, Refusal::Range)?;
+    /// So many successor sets of this many states.
+    fn sets(&mut self, count: usize, states: usize) -> Read<Vec<StateSet>> {
+        let mut sets = Vec::with_capacity(count);
+        for _ in 0..count {
+            sets.push(self.between(1, below(states), Refusal::Bits)?);
+        }
+        Ok(sets)
+    }
+
+    fn table(&mut self, signals: u64, driven: &mut u32) -> Read<Table> {
+        let states = self.count(1, MOST_STATES as u64)?;
         let (inputs, own) = self.ports(4, signals, 0)?;
         let (outputs, drives) = self.ports(8, signals, own | *driven)?;
         *driven |= drives;
-        let states = states as usize;
-        let words = self.words(states, 0, below(outputs.len()))?;
-        let nexts = self.words(states << inputs.len(), 1, below(states))?;
+        let words = self.words(states, outputs.len())?;
+        let nexts = self.sets(states << inputs.len(), states)?;
         Ok(Table { states, inputs, outputs, words, nexts })
     }
 
-    fn nodes(&mut self, signals: u32, driven: u32) -> Read<Vec<Node>> {
-        let count = self.between(1, 24, Refusal::Range)?;
-        let mut nodes = Vec::with_capacity(count as usize);
+    fn nodes(&mut self, signals: u64, driven: u32) -> Read<Vec<Node>> {
+        let count = self.count(1, 24)?;
+        let mut nodes = Vec::with_capacity(count);
         for k in 0..count {
             nodes.push(self.node(signals, driven, k)?);
         }
         Ok(nodes)
     }
 
-    fn operand(&mut self, k: u32) -> Read<usize> {
+    fn operand(&mut self, k: usize) -> Read<usize> {
         let value = self.number()?;
-        if value < k {
+        if value < k as u64 {
             Ok(value as usize)
         } else {
             Err(Refusal::Formula)
         }
     }
 
-    fn node(&mut self, signals: u32, driven: u32, k: u32) -> Read<Node> {
+    fn node(&mut self, signals: u64, driven: u32, k: usize) -> Read<Node> {
         Ok(match self.number()? {
             0 => Node::True,
             1 => {
@@ -120,7 +134,7 @@ impl Reader<'_> {
                 if signal >= signals || driven >> signal & 1 == 0 {
                     return Err(Refusal::Undriven);
                 }
-                Node::Signal(signal)
+                Node::Signal(signal as u32)
             }
             2 => Node::Not(self.operand(k)?),
             3 => Node::Or(self.operand(k)?, self.operand(k)?),
@@ -133,15 +147,16 @@ impl Reader<'_> {
 
     /// The starts: a state of each component.
     fn starts(&mut self, tables: &[Table]) -> Read<Vec<[usize; 4]>> {
-        let count = self.between(0, 64, Refusal::Range)?;
-        let mut starts = Vec::with_capacity(count as usize);
+        let count = self.count(0, 64)?;
+        let mut starts = Vec::with_capacity(count);
         for _ in 0..count {
             let mut start = [0; 4];
             for (part, table) in start.iter_mut().zip(tables) {
-                *part = self.number()? as usize;
-                if *part >= table.states {
+                let state = self.number()?;
+                if state >= table.states as u64 {
                     return Err(Refusal::Start);
                 }
+                *part = state as usize;
             }
             starts.push(start);
         }

@@ -4,6 +4,7 @@
 use super::classes::{both, everything, ex, fixed, names, same_level, Relation};
 use super::instrument::{Instrument, Node, Table};
 use super::marks::Mark;
+use super::words::MOST_STATES;
 
 /// One node, from the marks and the relations of earlier ones.
 fn relation(table: &Table, node: Node, mark: Mark, marks: &[Mark], rows: &[Relation]) -> Relation {
@@ -27,7 +28,7 @@ fn component_classes(table: &Table, nodes: &[Node], needed: u32, marks: &[Mark])
     for (k, &node) in nodes.iter().enumerate() {
         let row = match needed >> k & 1 {
             1 => relation(table, node, marks[k], marks, &rows),
-            _ => [0; 32],
+            _ => [0; MOST_STATES],
         };
         rows.push(row);
     }

@@ -1,10 +1,11 @@
-//! Crate verdict: whether every start satisfies the root, and the stage that tells.
+//! Crates start_marks and verdict: whether every start satisfies the root, and the stage that tells.
 
 use super::instrument::Instrument;
 use super::marks::Mark;
 use super::merged::{root_bit, write_merged};
 use super::merging::merged_count;
 use super::refusal::Refusal;
+use super::words::StateSet;
 
 #[derive(Clone, Copy)]
 pub enum Verdict {
@@ -17,7 +18,7 @@ pub fn by_marks(instrument: &Instrument, marks: &[Vec<Mark>]) -> Result<Option<V
     let root = instrument.nodes.len() - 1;
     let (mut clash, mut failing, mut passing) = (false, false, true);
     for start in &instrument.starts {
-        let marked = |set: fn(Mark) -> u32| {
+        let marked = |set: fn(Mark) -> StateSet| {
             marks.iter().zip(start).any(|(marks, state)| set(marks[root]) >> state & 1 == 1)
         };
         let (pass, fail) = (marked(|mark| mark.pass), marked(|mark| mark.fail));

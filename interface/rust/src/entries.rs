@@ -9,7 +9,7 @@ pub const MOST_WORDS: usize = 4096;
 /// Room enough for the marks of every file.
 pub const MOST_MARKS: usize = 192;
 /// Room enough for the class names of every file.
-pub const MOST_NAMES: usize = 128;
+pub const MOST_NAMES: usize = 256;
 /// Room enough for the listing of every file.
 pub const MOST_TEXT: usize = 2048;
 
@@ -25,8 +25,8 @@ pub fn full_words(file: &[u8], out: &mut [u32]) -> Result<usize, Refusal> {
     written(raw::pinthar_full_words, file, out)
 }
 
-/// Marks: two words for every component and node, PASS then FAIL, components outermost.
-pub fn mark_words(file: &[u8], out: &mut [u32]) -> Result<usize, Refusal> {
+/// Marks: two words for every component and node, PASS then FAIL, bit t for state t, components outermost.
+pub fn mark_words(file: &[u8], out: &mut [u64]) -> Result<usize, Refusal> {
     written(raw::pinthar_mark_words, file, out)
 }
 

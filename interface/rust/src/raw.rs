@@ -10,7 +10,7 @@ extern "C" {
     pub fn pinthar_mark_words(
         file: *const u8,
         file_size: usize,
-        out: *mut u32,
+        out: *mut u64,
         out_size: usize,
     ) -> u64;
     pub fn pinthar_class_names(

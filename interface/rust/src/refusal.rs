@@ -47,7 +47,7 @@ impl Refusal {
     pub fn cause(self) -> &'static str {
         match self {
             Refusal::FileEnds => "file ends inside or before a number",
-            Refusal::NumberForm => "form not shortest, or above 2^32 - 1",
+            Refusal::NumberForm => "form not shortest, or above 2^64 - 1",
             Refusal::OutsideRange => "count, or asked component number, outside its range",
             Refusal::ListedSignal => "listed signal not ascending or not below W",
             Refusal::OutputTaken => "output already driven, or also an own input",

@@ -14,6 +14,8 @@ fn ask_everything() {
     assert_eq!(words, [3, 0, 1, 0, 9]);
     let mut marks = [9; MOST_MARKS];
     assert_eq!(mark_words(&PAIR, &mut marks), Ok(8));
+    assert_eq!(marks[..3], [1, 2, 0]);
+    assert_eq!(marks[8..], [9; MOST_MARKS - 8]);
     let mut names = [9; MOST_NAMES];
     assert_eq!(class_names(&PAIR, &mut names), Ok(4));
     assert_eq!(names[..5], [0, 1, 0, 1, 9]);
@@ -69,6 +71,19 @@ fn deep_in_the_work() {
         assert_eq!(full_words(large, &mut vec![0; MOST_WORDS]), Ok(4096));
     };
     on_stack(|| at_depth(13 << 20, &ask));
+}
+
+/// Of 64 states all are PASS of true, and all FAIL of not true.
+#[test]
+fn marks_of_64_states() {
+    let file = include_bytes!("../../../crates/cases/data/marks_all_64");
+    let mut marks = [9; MOST_MARKS];
+    assert_eq!(mark_words(file, &mut marks), Ok(26));
+    assert_eq!(marks[..4], [u64::MAX, 0, 0, u64::MAX]);
+    assert_eq!(marks[26..], [9; MOST_MARKS - 26]);
+    let mut names = [9; MOST_NAMES];
+    assert_eq!(class_names(file, &mut names), Ok(64));
+    assert_eq!(names[64..], [9; MOST_NAMES - 64]);
 }
 
 #[test]

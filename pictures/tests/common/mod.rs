@@ -59,7 +59,7 @@ pub fn check_states(svg: &str, class_names: &[usize]) {
 }
 
 /// The letters P and F of the states are the root's marks.
-pub fn check_letters(svg: &str, (pass, fail): (u32, u32)) {
+pub fn check_letters(svg: &str, (pass, fail): (u64, u64)) {
     let elements = xml::elements(svg).expect("well-formed XML");
     for (group, inside) in state_groups(&elements) {
         let state = group.attribute("id").and_then(|id| id.strip_prefix("state-"));

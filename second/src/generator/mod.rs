@@ -10,16 +10,20 @@ use crate::marks::marks;
 use crate::prng::Prng;
 use crate::reading::Reading;
 use formula::formula;
-pub use shapes::{at_limits, large_alike, large_different, medium, small, tiny, Shape};
+pub use shapes::{
+    at_limits, large_alike, large_different, medium, small, tiny, two_wide, wide, widest, Shape,
+};
 pub use tables::random_table;
-use tables::{change_one_set, listed_inputs, with_duplicates};
+use tables::{change_one_set, listed_inputs, make_dense, with_duplicates};
 
 /// An instrument of a shape that is itself drawn; most are small.
 pub fn instrument(prng: &mut Prng) -> Instrument {
     let shape = match prng.below(1000) {
         0..=399 => tiny(prng),
         400..=859 => small(prng),
-        860..=971 => medium(prng),
+        860..=949 => medium(prng),
+        950..=970 => wide(prng),
+        971 => two_wide(prng),
         972..=981 => large_alike(prng),
         982..=996 => large_different(prng),
         _ => at_limits(prng),
@@ -46,6 +50,9 @@ pub fn instrument_of(prng: &mut Prng, shape: &Shape) -> Instrument {
         let mut table = with_duplicates(prng, &table, states);
         if prng.percent(30) {
             change_one_set(prng, &mut table);
+        }
+        if shape.dense_sets > 0 {
+            make_dense(prng, &mut table, shape.dense_sets);
         }
         tables.push(table);
     }

@@ -15,6 +15,8 @@ pub struct Shape {
     /// No component has more different states than this before states are
     /// duplicated.
     pub different_states: usize,
+    /// Of a hundred successor sets, about this many hold half of all states.
+    pub dense_sets: usize,
 }
 
 /// At most six combined states, so that lassos can be listed.
@@ -33,6 +35,7 @@ pub fn tiny(prng: &mut Prng) -> Shape {
         nodes: prng.between(1, 8),
         starts: start_count(prng),
         different_states: prng.between(1, 6),
+        dense_sets: 0,
     }
 }
 
@@ -45,6 +48,7 @@ pub fn small(prng: &mut Prng) -> Shape {
         nodes: prng.between(1, 12),
         starts: start_count(prng),
         different_states: prng.between(2, 5),
+        dense_sets: 0,
     }
 }
 
@@ -57,6 +61,7 @@ pub fn medium(prng: &mut Prng) -> Shape {
         nodes: prng.between(4, limits::NODES),
         starts: start_count(prng),
         different_states: prng.between(2, 6),
+        dense_sets: 0,
     }
 }
 
@@ -75,6 +80,7 @@ pub fn large_alike(prng: &mut Prng) -> Shape {
         nodes: prng.between(2, 7),
         starts: start_count(prng),
         different_states: prng.between(2, 4),
+        dense_sets: 0,
     }
 }
 
@@ -87,6 +93,56 @@ pub fn large_different(prng: &mut Prng) -> Shape {
         nodes: prng.between(4, 8),
         starts: start_count(prng),
         different_states: limits::STATES,
+        dense_sets: 0,
+    }
+}
+
+/// A component of more than 32 states, alone or beside up to three small ones.
+pub fn wide(prng: &mut Prng) -> Shape {
+    let states = wide_size(prng);
+    beside_small_ones(prng, states)
+}
+
+/// A component of 64 states, alone or beside up to three small ones.
+pub fn widest(prng: &mut Prng) -> Shape {
+    Shape { different_states: limits::STATES, ..beside_small_ones(prng, limits::STATES) }
+}
+
+/// A component of so many states, at any place among up to three small ones.
+fn beside_small_ones(prng: &mut Prng, states: usize) -> Shape {
+    let components = prng.between(1, limits::COMPONENTS);
+    let mut sizes: Vec<usize> = (0..components).map(|_| prng.between(1, 4)).collect();
+    sizes[prng.below(components)] = states;
+    Shape {
+        sizes,
+        signals: prng.between(2, 6),
+        inputs: 2,
+        nodes: prng.between(2, 12),
+        starts: start_count(prng),
+        different_states: prng.between(4, limits::STATES),
+        dense_sets: *prng.one_of(&[0, 0, 5, 40]),
+    }
+}
+
+/// Two components of more than 32 states.
+pub fn two_wide(prng: &mut Prng) -> Shape {
+    Shape {
+        sizes: vec![wide_size(prng), wide_size(prng)],
+        signals: prng.between(3, 6),
+        inputs: 1,
+        nodes: prng.between(4, 8),
+        starts: start_count(prng),
+        different_states: prng.between(3, limits::STATES),
+        dense_sets: 0,
+    }
+}
+
+/// A number of states above 32, a fourth of the time the largest.
+fn wide_size(prng: &mut Prng) -> usize {
+    if prng.percent(25) {
+        limits::STATES
+    } else {
+        prng.between(33, limits::STATES)
     }
 }
 
@@ -102,6 +158,7 @@ pub fn at_limits(prng: &mut Prng) -> Shape {
         nodes: limits::NODES,
         starts: limits::STARTS,
         different_states: prng.between(2, 8),
+        dense_sets: 0,
     }
 }
 

@@ -92,6 +92,18 @@ fn repeats_of(prng: &mut Prng, origin: &[usize], set: &[usize]) -> Vec<usize> {
     (0..origin.len()).filter(|&t| members[t]).collect()
 }
 
+/// Replaces about `percentage` of a hundred successor sets by ones that hold half
+/// of the states.
+pub fn make_dense(prng: &mut Prng, table: &mut Table, percentage: usize) {
+    let states = table.states();
+    for set in table.successors.iter_mut().flatten() {
+        if prng.percent(percentage) {
+            let surely = prng.below(states);
+            *set = (0..states).filter(|&t| t == surely || prng.percent(50)).collect();
+        }
+    }
+}
+
 /// Replaces one successor set by a random one.
 pub fn change_one_set(prng: &mut Prng, table: &mut Table) {
     let state = prng.below(table.states());

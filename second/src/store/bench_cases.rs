@@ -2,7 +2,7 @@
 
 use super::random_cases::asked_states;
 use super::Case;
-use crate::examples::{self, all_to_zero, chain_with, counters, pair_from};
+use crate::examples::{self, all_to_zero, chain_with, counters, pair_from, wide};
 use crate::fields::write;
 use crate::instrument::{Instrument, Node};
 use crate::prng::Prng;
@@ -11,6 +11,7 @@ use crate::reader::read;
 pub fn cases() -> Vec<Case> {
     let mut cases = document_cases();
     cases.extend(limit_cases());
+    cases.extend(wide_cases());
     cases.extend(trailing_cases());
     cases.push(questions_case());
     cases
@@ -49,15 +50,15 @@ fn document_cases() -> Vec<Case> {
 
 fn limit_cases() -> Vec<Case> {
     let without_starts = Instrument { starts: vec![], ..examples::merged_too_large() };
-    let signal_only = Instrument { nodes: vec![Node::Signal(0)], ..counters(&[32]) };
-    let mut full_set = counters(&[32]);
-    full_set.tables[0].successors[7] = vec![(0..32).collect()];
+    let signal_only = Instrument { nodes: vec![Node::Signal(0)], ..counters(&[64]) };
     vec![
-        good("states_32", &all_to_zero(32)),
-        good("states_33", &all_to_zero(33)),
-        good("counter_32", &counters(&[32])),
+        good("states_64", &all_to_zero(64)),
+        good("states_65", &all_to_zero(65)),
+        good("counter_64", &counters(&[64])),
         good("counter_signal", &signal_only),
-        good("all_32_successor", &full_set),
+        good("all_64_successor", &with_full_set(64)),
+        good("sizes_64_64", &counters(&[64, 64])),
+        good("sizes_64_64_2", &counters(&[64, 64, 2])),
         good("sizes_32_32_4", &counters(&[32, 32, 4])),
         good("sizes_32_32_5", &examples::merged_too_large()),
         good("no_starts_5120", &without_starts),
@@ -67,7 +68,29 @@ fn limit_cases() -> Vec<Case> {
     ]
 }
 
-/// Files with trailing bytes around 16,385 bytes, and one with an earlier fault.
+/// Cases in which states above 31, and the last of 64, matter.
+fn wide_cases() -> Vec<Case> {
+    vec![
+        good("all_to_63", &wide::all_to_last(64)),
+        good("counter_33", &counters(&[33])),
+        good("all_33_successor", &with_full_set(33)),
+        good("all_63_successor", &with_full_set(63)),
+        good("marks_all_64", &wide::marked_all(64)),
+        good("stage_51", &wide::stage()),
+        good("gated_64", &wide::gated()),
+        good("chain_from_63", &wide::chain_from_last()),
+        good("guard_61", &wide::guarded_pair()),
+    ]
+}
+
+/// A counter that goes from state 7 to every state.
+fn with_full_set(states: usize) -> Instrument {
+    let mut instrument = counters(&[states]);
+    instrument.tables[0].successors[7] = vec![(0..states).collect()];
+    instrument
+}
+
+/// Files with trailing bytes around 49,153 bytes, and one with an earlier fault.
 fn trailing_cases() -> Vec<Case> {
     let longer = |file: &[u8], length: usize| {
         let mut longer = file.to_vec();
@@ -78,12 +101,12 @@ fn trailing_cases() -> Vec<Case> {
     fault_at_10[10] = 8;
     let longest = write(&examples::longest());
     vec![
-        case("chain_16385", longer(&examples::CHAIN, 16_385)),
-        case("chain_16386", longer(&examples::CHAIN, 16_386)),
-        case("pair_20000", longer(&examples::PAIR, 20_000)),
-        case("longest_10772", longer(&longest, longest.len() + 1)),
-        case("longest_16400", longer(&longest, 16_400)),
-        case("fault_6_17000", longer(&fault_at_10, 17_000)),
+        case("chain_49153", longer(&examples::CHAIN, 49_153)),
+        case("chain_49154", longer(&examples::CHAIN, 49_154)),
+        case("pair_52000", longer(&examples::PAIR, 52_000)),
+        case("longest_41652", longer(&longest, longest.len() + 1)),
+        case("longest_49200", longer(&longest, 49_200)),
+        case("fault_6_50000", longer(&fault_at_10, 50_000)),
     ]
 }
 

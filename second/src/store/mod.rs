@@ -8,6 +8,7 @@ mod output;
 mod random_cases;
 mod reading_cases;
 pub mod refusal_cases;
+mod wide_rows;
 
 pub use case::Case;
 pub use folder::{compare, store};

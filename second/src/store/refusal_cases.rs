@@ -1,18 +1,22 @@
 //! A case for each way to be refused. Document 01, "Refused".
 
+use super::wide_rows;
 use super::Case;
 use crate::examples::{CHAIN, PAIR};
 
+/// 2^64 - 1.
+const LARGEST: [u8; 10] = [255, 255, 255, 255, 255, 255, 255, 255, 255, 1];
+
 /// A file with one fault, and the number it gets.
 pub struct Row {
-    pub name: &'static str,
+    pub name: String,
     pub file: Vec<u8>,
     pub number: usize,
 }
 
 pub fn cases() -> Vec<Case> {
     let asked = [[0, 0, 0, 0], [4_294_967_295, 1, 0, 7]];
-    let case = |row: Row| Case::of(row.name, row.file, &asked);
+    let case = |row: Row| Case::of(&row.name, row.file, &asked);
     rows().into_iter().map(case).collect()
 }
 
@@ -21,22 +25,23 @@ pub fn rows() -> Vec<Row> {
     rows.extend(count_rows());
     rows.extend(table_rows());
     rows.extend(formula_and_start_rows());
+    rows.extend(wide_rows::rows());
     rows
 }
 
 /// The file with other bytes instead of the one at the place.
-fn changed(name: &'static str, file: &[u8], place: usize, bytes: &[u8], number: usize) -> Row {
+pub fn changed(name: &str, file: &[u8], place: usize, bytes: &[u8], number: usize) -> Row {
     let mut changed = file[..place].to_vec();
     changed.extend(bytes);
     changed.extend(&file[place + 1..]);
-    Row { name, file: changed, number }
+    Row { name: name.to_string(), file: changed, number }
 }
 
 /// The file cut after the given bytes at the place.
-fn cut(name: &'static str, file: &[u8], place: usize, bytes: &[u8], number: usize) -> Row {
+pub fn cut(name: &str, file: &[u8], place: usize, bytes: &[u8], number: usize) -> Row {
     let mut cut = file[..place].to_vec();
     cut.extend(bytes);
-    Row { name, file: cut, number }
+    Row { name: name.to_string(), file: cut, number }
 }
 
 /// 1 and 2: the file ends; the form is not the shortest or the value too high.
@@ -50,14 +55,7 @@ fn number_rows() -> Vec<Row> {
         changed("r02_two_bytes", &CHAIN, 9, &[130, 0], 2),
         changed("r02_three_bytes", &CHAIN, 9, &[130, 128, 0], 2),
         changed("r02_five_bytes", &CHAIN, 9, &[130, 128, 128, 128, 0], 2),
-        changed("r02_fifth_16", &CHAIN, 9, &[130, 128, 128, 128, 16], 2),
-        cut("r02_fifth_16_end", &CHAIN, 9, &[130, 128, 128, 128, 16], 2),
-        cut("r02_fifth_128", &CHAIN, 9, &[130, 128, 128, 128, 128], 2),
-        changed("r02_six_bytes", &CHAIN, 9, &[130, 128, 128, 128, 128, 1], 2),
         changed("r02_count", &CHAIN, 0, &[133, 0], 2),
-        changed("r06_fifth_15", &CHAIN, 9, &[255, 255, 255, 255, 15], 6),
-        cut("r06_fifth_15_end", &CHAIN, 9, &[255, 255, 255, 255, 15], 6),
-        cut("r06_fifth_1", &CHAIN, 9, &[128, 128, 128, 128, 1], 6),
     ]
 }
 
@@ -68,13 +66,13 @@ fn count_rows() -> Vec<Row> {
         changed("r03_components_5", &CHAIN, 0, &[5], 3),
         changed("r03_signals_13", &CHAIN, 1, &[13], 3),
         changed("r03_states_0", &CHAIN, 2, &[0], 3),
-        changed("r03_states_33", &CHAIN, 2, &[33], 3),
+        changed("r03_states_65", &CHAIN, 2, &[65], 3),
         changed("r03_inputs_5", &CHAIN, 3, &[5], 3),
         changed("r03_outputs_9", &CHAIN, 4, &[9], 3),
         changed("r03_nodes_0", &CHAIN, 12, &[0], 3),
         changed("r03_nodes_25", &CHAIN, 12, &[25], 3),
         changed("r03_starts_65", &CHAIN, 17, &[65], 3),
-        changed("r03_largest", &CHAIN, 17, &[255, 255, 255, 255, 15], 3),
+        changed("r03_largest", &CHAIN, 17, &LARGEST, 3),
     ]
 }
 
@@ -87,6 +85,8 @@ fn table_rows() -> Vec<Row> {
     vec![
         changed("r04_input_high", &PAIR, 4, &[2], 4),
         changed("r04_output_high", &PAIR, 6, &[2], 4),
+        changed("r04_in_largest", &PAIR, 4, &LARGEST, 4),
+        changed("r04_out_largest", &PAIR, 6, &LARGEST, 4),
         changed("r04_in_repeated", &two_inputs, 5, &[0], 4),
         changed("r04_in_lower", &[1, 4, 1, 2, 2, 1], 5, &[1], 4),
         changed("r04_out_repeated", &two_outputs, 6, &[1], 4),
@@ -99,6 +99,8 @@ fn table_rows() -> Vec<Row> {
         changed("r06_word_none", &[1, 0, 1, 0, 0, 0, 1, 1, 0, 0], 5, &[1], 6),
         changed("r06_set_high", &CHAIN, 10, &[8], 6),
         changed("r06_set_empty", &CHAIN, 10, &[0], 6),
+        changed("r06_word_largest", &CHAIN, 6, &LARGEST, 6),
+        changed("r06_set_largest", &CHAIN, 10, &LARGEST, 6),
     ]
 }
 
@@ -108,7 +110,8 @@ fn formula_and_start_rows() -> Vec<Row> {
     vec![
         changed("r07_kind", &CHAIN, 15, &[7], 7),
         cut("r07_kind_end", &CHAIN, 15, &[7], 7),
-        changed("r07_kind_largest", &CHAIN, 13, &[255, 255, 255, 255, 15], 7),
+        changed("r07_kind_largest", &CHAIN, 13, &LARGEST, 7),
+        changed("r07_op_largest", &CHAIN, 16, &LARGEST, 7),
         changed("r07_itself", &CHAIN, 16, &[1], 7),
         changed("r07_later", &CHAIN, 16, &[2], 7),
         cut("r07_first_end", &CHAIN, 15, &[6, 1], 7),
@@ -116,11 +119,13 @@ fn formula_and_start_rows() -> Vec<Row> {
         changed("r07_first_node", &CHAIN, 13, &[2], 7),
         changed("r08_external", &undriven, 10, &[1], 8),
         changed("r08_not_below_w", &CHAIN, 14, &[1], 8),
-        changed("r08_largest", &CHAIN, 14, &[255, 255, 255, 255, 15], 8),
+        changed("r08_largest", &CHAIN, 14, &LARGEST, 8),
         changed("r09_start", &CHAIN, 18, &[3], 9),
         changed("r09_second", &PAIR, 28, &[2], 9),
         cut("r09_end", &PAIR, 27, &[2], 9),
+        changed("r09_largest", &PAIR, 28, &LARGEST, 9),
         changed("r10_byte", &CHAIN, 18, &[0, 0], 10),
         changed("r10_bad_number", &CHAIN, 18, &[0, 128, 0], 10),
+        changed("r10_largest", &CHAIN, 18, &[&[0], &LARGEST[..]].concat(), 10),
     ]
 }

@@ -114,7 +114,7 @@ fn asked_states(queries: &Result<Queries, Refusal>, prng: &mut Prng) -> Vec<[u32
     }
     for c in 0..4 {
         let size = sizes[c] as u32;
-        for wrong in [size, size + 1, 32, 256, 1 << 16, u32::MAX] {
+        for wrong in [size, size + 1, 64, 256, 1 << 16, u32::MAX] {
             let mut states = asked[0];
             states[c] = wrong;
             asked.push(states);
