@@ -1,21 +1,13 @@
 -- The text of an outcome, and what an answer says of it.
 use mathlib.Core.Path.{_≡_, refl, ap, ap₂, subst, _∙_}
-use mathlib.Core.Bool.{Bool, true, false}
 use mathlib.Core.List.{List}
-use lib.Dec.{leb}
 use lib.ListN.{length, take, drop, length-append}
 use lib.Seq.{take-append-seam}
 use native.Mathlib.Omega.{arith}
 use Prim.Native.Nat.{ℕ, _-_, _≤_}
-use Rattle.meaning.specs.Instrument.{Instrument}
-use Rattle.meaning.specs.File.Parser.{Got, found, fault}
-use Rattle.meaning.specs.File.Number.{choose}
-use Rattle.meaning.specs.File.Grammar.{Contents, readFile}
-use Rattle.meaning.specs.Reference.Answers.{Outcome, refused, entries, fitting, lentAfter}
-use Rattle.meaning.proofs.File.Faults.{file-faults}
+use Rattle.meaning.specs.Reference.Answers.{Outcome, refused, entries, lentAfter}
 use Rattle.cursor.specs.Answers.{number}
 use Rattle.cursor.specs.declared.Refusal.{Refusal}
-use Rattle.answers.specs.Outcomes.{after, within}
 use Rattle.answers.specs.Listing.{refusalLine}
 use Rattle.entry_queries.specs.declared.Written.{Written}
 use Rattle.entry_queries.specs.declared.Written.the-variants.{Entries, Refused}
@@ -29,29 +21,7 @@ outcomeText f (entries vs) = f vs
 
 -- a refusal has a number above 0
 abbrev pub Numbered : Outcome → Type 0
-Numbered (refused r) = 1 ≤ r
-Numbered (entries vs) = Unit {0}
-
-pub fitting-numbered : (room : ℕ) (vs : List ℕ) → Numbered (fitting room vs)
-fitting-numbered room vs = go (leb (length vs) room)
-  where
-    go : (b : Bool) → Numbered (choose b (entries vs) (refused 13))
-    go true = tt
-    go false = omega arith
-
-pub within-numbered : (size n : ℕ) (o : Outcome) → 1 ≤ n → Numbered o → Numbered (within size n o)
-within-numbered size n o h p = go (leb size 4096)
-  where
-    go : (b : Bool) → Numbered (choose b o (refused n))
-    go true = p
-    go false = h
-
-pub after-numbered : (file : List ℕ) (f : Instrument → Outcome) → ((I : Instrument) → Numbered (f I)) → Numbered (after (readFile file) f)
-after-numbered file f h = go (readFile file) refl
-  where
-    go : (g : Got Contents) → readFile file ≡ g → Numbered (after g f)
-    go (found k end) e = h _
-    go (fault r) e = file-faults file r e .0
+Numbered o = (r : ℕ) → o ≡ refused r → 1 ≤ r
 
 -- a refused answer
 module _ (o : Outcome) (cause : Refusal) {w : Written} {old new : List ℕ} (e : w ≡ Refused cause) (a : Answered o w old new) where
@@ -90,7 +60,7 @@ module _ (o : Outcome) (p : Numbered o) (n : ℕ) {w : Written} {old new : List 
   entered f = go o p so
     where
       go : (o : Outcome) → Numbered o → Answered o (Entries n) old new → Entered f o n new
-      go (refused r) p a = absurd (omega (arith, p, a .number))
+      go (refused r) p a = absurd (omega (arith, p r refl, a .number))
       go (entries vs) p a =
           record {
             fits = omega (arith, a .count, ap length (a .buffer), length-append vs (drop (length vs) old));
@@ -102,5 +72,5 @@ module _ (o : Outcome) (p : Numbered o) (n : ℕ) {w : Written} {old new : List 
   entered-made = go o p so
     where
       go : (o : Outcome) → Numbered o → Answered o (Entries n) old new → Made (outcomeText (λ vs. vs) o) n old new
-      go (refused r) p a = absurd (omega (arith, p, a .number))
+      go (refused r) p a = absurd (omega (arith, p r refl, a .number))
       go (entries vs) p a = record { count = a .count; buffer = a .buffer }

@@ -7,8 +7,6 @@ use lib.ListN.{length, drop, length-take}
 use native.Mathlib.Omega.{arith}
 use borrow.Author.Tests.{le-leb}
 use Prim.Native.Nat.{ℕ, _+_, _-_, _*_, _≤_}
-use Rattle.meaning.specs.Instrument.{Instrument}
-use Rattle.meaning.specs.Verdict.{Answer, judged, clash, oversized}
 use Rattle.meaning.specs.File.Parser.{Got, found, fault}
 use Rattle.meaning.specs.File.Number.{choose}
 use Rattle.meaning.specs.File.Grammar.{Contents, instrumentOf, limits, readFile}
@@ -26,11 +24,12 @@ use Rattle.answers.specs.Listing.{refusalLine, listed, listingText, listingOutc
 use Rattle.answers.specs.Lines.{wordsLine, hexadecimalLine}
 use Rattle.answers.specs.Questions.{full, merged, listing, stretch}
 use Rattle.answers.specs.Printed.{printed, textAfter, textWithin, listedText, stretchText}
+use Rattle.answers.proofs.Numbers.{numbers}
 use Rattle.reader.specs.Outcomes.{faultNumber}
 use Rattle.listing_lines.proofs.Lengths.{listing-length}
 use Rattle.entry_queries.proofs.Answering.{number-some}
 use Rattle.answer_text.specs.Settled.{textBytes}
-use Rattle.answer_text.proofs.Outcomes.{outcomeText, Numbered, fitting-numbered, within-numbered, after-numbered}
+use Rattle.answer_text.proofs.Outcomes.{outcomeText, Numbered}
 
 -- a buffer of 4,096 words has room for the words of every combination that is built
 words-text : (size r : ℕ) (f : ℕ → ℕ)
@@ -55,8 +54,7 @@ module _ (file : List ℕ) where
       go (fault r) = refl
 
   pub full-numbered : Numbered (fullOutcome file 4096)
-  unfolding fullOutcome
-  full-numbered = after-numbered file _ (λ I. within-numbered (fullCount I) 11 _ (omega arith) (fitting-numbered 4096 (fullWords I)))
+  full-numbered r e = numbers full file r (4096, e) .0
 
   pub merged-text : printed merged file ≡ outcomeText wordsLine (mergedOutcome file 4096)
   unfolding printed mergedOutcome
@@ -68,8 +66,7 @@ module _ (file : List ℕ) where
       go (fault r) = refl
 
   pub merged-numbered : Numbered (mergedOutcome file 4096)
-  unfolding mergedOutcome
-  merged-numbered = after-numbered file _ (λ I. within-numbered (mergedSize I) 12 _ (omega arith) (fitting-numbered 4096 (mergedWords I)))
+  merged-numbered r e = numbers merged file r (4096, e) .0
 
   -- the listing has at most 2,048 bytes
   pub listing-text : (room : ℕ) → 2048 ≤ room → printed listing file ≡ outcomeText (λ vs. vs) (listingOutcome file room)
@@ -86,13 +83,7 @@ module _ (file : List ℕ) where
       go (fault r) e = refl
 
   pub listing-numbered : (room : ℕ) → Numbered (listingOutcome file room)
-  unfolding listingOutcome
-  listing-numbered room = after-numbered file _ (λ I. told I (verdictOf I))
-    where
-      told : (I : Instrument) (a : Answer) → Numbered (listed I room (judgement a))
-      told I (judged v s) = fitting-numbered room (listingText I (record { verdict = v; stage = s }))
-      told I clash = omega arith
-      told I oversized = omega arith
+  listing-numbered room r e = numbers listing file r (room, e) .0
 
 -- a component's bytes: refused
 module _ (file : List ℕ) (c : ℕ) where

@@ -20,9 +20,14 @@ use Rattle.answers.specs.Outcomes.{after, classOutcome, fullOutcome, giv
 use Rattle.answers.specs.Outcomes.{replyAfter, verdictOf, verdictReply, within}
 use Rattle.answers.proofs.Means.{class-means, full-means, marks-mean, merged-means}
 use Rattle.answers.proofs.Starts.{lookup-means, verdict-means}
+use Rattle.answers.proofs.PrintedNumbers.{Bytes}
 
 abbrev pairFile : List ℕ
 pairFile = pair (1 ∷ 0 ∷ 0 ∷ [])
+
+-- ---- a file of bytes
+pub bytes-met : Bytes pairFile
+bytes-met = tt
 
 -- ---- accepted answers
 pub full-met : fullOutcome pairFile 4 ≡ entries (3 ∷ 0 ∷ 1 ∷ 0 ∷ [])

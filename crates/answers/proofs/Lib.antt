@@ -4,5 +4,7 @@ pub mod Parts
 pub mod Limit
 pub mod Inhabited
 pub mod Printed
+pub mod Numbers
+pub mod PrintedNumbers
 pub mod Asked
 pub mod Wide

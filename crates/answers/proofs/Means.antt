@@ -29,7 +29,8 @@ use Rattle.meaning.proofs.Basic.Decides.{Decides}
 use Rattle.meaning.proofs.Basic.Booleans.{and-in, and-l, and-r}
 use Rattle.meaning.proofs.File.Nodes.{beneath-in, beneath-out, beneath-le}
 use Rattle.meaning.proofs.Meaning.Index.{index-lt, index-same}
-use Rattle.meaning.proofs.Claims.{full-01, described-01, classes-01, computed-beside, merged-01, merged-bits-01, merged-state-01, merged-index-01}
+use Rattle.meaning.proofs.Claims.{full-01, described-01, classes-01, computed-beside, no-clash-01, merged-01, merged-bits-01, merged-state-01}
+use Rattle.meaning.proofs.Claims.{merged-index-01}
 use Rattle.answers.specs.Means.{FullMeans, MarksMean, ClassesMean, MergedMeans, offset}
 
 -- a set below n that a test makes
@@ -107,13 +108,10 @@ module _ (I : Instrument) (accepted : Accepted I) (old : List ℕ) where
   pub marks-mean : MarksMean (lentAfter (entries (markWords I)) old) I
   marks-mean =
       record {
-        pass = λ i k l h x.
-            subst (λ w. T (has w x) ↔ ((x < S i .states) × Pass (S i) (κ i) (formula k) x)) (sym (pass-at i k l h))
-            (decided (S i .states) (described-01 I accepted i l .marks (formula k) .0) x);
-        fail = λ i k l h x.
-            subst (λ w. T (has w x) ↔ ((x < S i .states) × Fail (S i) (κ i) (formula k) x)) (sym (mark-at i k 1 l h (omega arith)))
-            (decided (S i .states) (described-01 I accepted i l .marks (formula k) .1) x);
+        pass = pass;
+        fail = fail;
         beside = beside;
+        never-both = λ i j k l q h s p f. no-clash-01 I accepted k s i j l q (pass i k l h (s .at i) .0 p .1) (fail j k q h (s .at j) .0 f .1);
       }
     where
       decided : (m : ℕ) {b : ℕ → Bool} {P : ℕ → Type 0} → Decides m b P → (x : ℕ) → T (has (built m b) x) ↔ ((x < m) × P x)
@@ -123,6 +121,19 @@ module _ (I : Instrument) (accepted : Accepted I) (old : List ℕ) where
       pass-at i k l h =
           let e : 2 * nodeCount * i + (2 * k + 0) ≡ 2 * nodeCount * i + 2 * k = omega arith in
           rw e at (mark-at i k 0 l h (omega arith))
+
+      pass : (i k : ℕ) → i < n → k < nodeCount → (x : ℕ)
+          → T (has (getD (lentAfter (entries (markWords I)) old) (2 * nodeCount * i + 2 * k) 0) x) ↔ ((x < S i .states) × Pass (S i) (κ i) (formula k) x)
+      pass i k l h x =
+          subst (λ w. T (has w x) ↔ ((x < S i .states) × Pass (S i) (κ i) (formula k) x)) (sym (pass-at i k l h))
+          (decided (S i .states) (described-01 I accepted i l .marks (formula k) .0) x)
+
+      fail : (i k : ℕ) → i < n → k < nodeCount → (x : ℕ)
+          → T (has (getD (lentAfter (entries (markWords I)) old) (2 * nodeCount * i + (2 * k + 1)) 0) x)
+          ↔ ((x < S i .states) × Fail (S i) (κ i) (formula k) x)
+      fail i k l h x =
+          subst (λ w. T (has w x) ↔ ((x < S i .states) × Fail (S i) (κ i) (formula k) x)) (sym (mark-at i k 1 l h (omega arith)))
+          (decided (S i .states) (described-01 I accepted i l .marks (formula k) .1) x)
 
       -- beside partners: the component's table stands at place j
       beside : (i k : ℕ) → i < n → k < nodeCount → (m : ℕ) (P : ℕ → Table) (j : ℕ) → j < m → P j ≡ S i

@@ -15,7 +15,7 @@ use Rattle.meaning.specs.Combination.{State, Truth, high}
 use Rattle.meaning.specs.View.{View, wholeWords}
 use Rattle.meaning.specs.Classes.{classNumber}
 use Rattle.meaning.specs.Merged.{mergedSizes, classNumbers}
-use Rattle.meaning.specs.Verdict.{Right, HasPass, HasFail, judged}
+use Rattle.meaning.specs.Verdict.{Right, judged}
 use Rattle.meaning.specs.Reference.Answers.{classesAt, mergedSize}
 use Rattle.meaning.specs.Reference.Tests.{allOf, anyOf}
 use Rattle.meaning.specs.Reference.Marks.{passB, failB}
@@ -44,7 +44,6 @@ module _ {X : Type 0} where
       → answerB p f r m xs ≡ answerB p′ f′ r′ m xs
   answer-same p f r p′ f′ r′ m xs h =
       rw (
-        any-of-same (λ x. p x && f x) (λ x. p′ x && f′ x) xs (all-map (λ x e. ap₂ (λ a b. a && b) (e .0) (e .1)) xs h),
         any-of-same f f′ xs (all-map (λ x e. e .1) xs h),
         all-of-same p p′ xs (all-map (λ x e. e .0) xs h),
         all-of-same r r′ xs (all-map (λ x e. e .2) xs h),
@@ -115,7 +114,6 @@ module _ (I : Instrument) where
           is = all-map (λ l h. own l (h .1)) (I .starts) (accepted .starts);
           right =
               let good = accepted .well-formed in
-              subst (Right (λ l. HasPass n S κ ρ (stateOf l .at)) (λ l. HasFail n S κ ρ (stateOf l .at)) (λ l. Truth n S (high n S) ρ (stateOf l))
-              (I .starts) (mergedSize I ≤ 4096)) (written ∙ e)
+              subst (Right n S κ ρ (Truth n S (high n S) ρ) stateOf (I .starts) (mergedSize I ≤ 4096)) (written ∙ e)
               (verdict-right n S (I .signals) good (high n S) κ (whole-fit n S (I .signals) good) ρ 4096 stateOf (I .starts));
         }

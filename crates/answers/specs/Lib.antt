@@ -1,5 +1,6 @@
 pub mod Outcomes
 pub mod Listing
+pub mod Numbers
 pub mod Lines
 pub mod Questions
 pub mod Printed

@@ -18,7 +18,7 @@ use Rattle.meaning.specs.Marks.{Pass, Fail}
 use Rattle.meaning.specs.Relation.{Rel}
 use Rattle.meaning.specs.Classes.{ClassNames}
 use Rattle.meaning.specs.Merged.{mergedIndex}
-use Rattle.meaning.specs.Verdict.{Right, HasPass, HasFail, judged}
+use Rattle.meaning.specs.Verdict.{Right, judged}
 use Rattle.meaning.specs.File.Parser.{found}
 use Rattle.meaning.specs.File.Grammar.{Contents, instrumentOf, limits, component, drivenBy, readFile}
 use Rattle.meaning.specs.File.Promise.{componentAt}
@@ -74,6 +74,8 @@ module _ (out : List ℕ) (I : Instrument) where
         → ((l : ℕ) → l < m → l ≢ j → Partner (S i) (P l)) → (s : State m P)
         → (T (has (passAt i k) (s .at j)) → Truth m P (high m P) (formula k) s)
         × (T (has (failAt i k) (s .at j)) → Truth m P (high m P) (formula k) s → ⊥)
+    -- document 02, 6/14: no combined state is marked PASS for a node by one component and FAIL for the same node by another
+    pub never-both : (i j k : ℕ) → i < n → j < n → k < nodeCount → (s : State n S) → T (has (passAt i k) (s .at i)) → T (has (failAt j k) (s .at j)) → ⊥
 
   -- DEMAND 3, classes. The names are those of the classes of the largest relation that the rules allow at the root.
   pub record ClassesMean : Type 0 where
@@ -97,8 +99,8 @@ pub record VerdictMeans (j : Judgement) (I : Instrument) : Type 0 where
   pub start : List ℕ → State (components I) (table I)
   pub is : All (λ s. (i : ℕ) → i < components I → start s .at i ≡ getD s i 0) (I .starts)
   pub right : let n = components I in let S = table I in
-      Right (λ s. HasPass n S (λ i. wholeWords (S i)) (rootFormula I) (start s .at)) (λ s. HasFail n S (λ i. wholeWords (S i)) (rootFormula I) (start s .at))
-      (λ s. Truth n S (high n S) (rootFormula I) (start s)) (I .starts) (mergedSize I ≤ 4096) (judged (j .verdict) (j .stage))
+      Right n S (λ i. wholeWords (S i)) (rootFormula I) (Truth n S (high n S) (rootFormula I)) start (I .starts) (mergedSize I ≤ 4096)
+      (judged (j .verdict) (j .stage))
 
 -- the file is accepted and has component c
 pub record HasComponent (file : List ℕ) (c : ℕ) : Type 0 where

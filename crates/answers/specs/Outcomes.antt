@@ -8,7 +8,7 @@ use Prim.Native.Nat.{ℕ, _-_}
 use Rattle.meaning.specs.Instrument.{Instrument, components, table, rootFormula}
 use Rattle.meaning.specs.Combination.{high}
 use Rattle.meaning.specs.View.{wholeWords}
-use Rattle.meaning.specs.Verdict.{Answer, Verdict, Stage, judged, clash, oversized}
+use Rattle.meaning.specs.Verdict.{Answer, Verdict, Stage, judged, oversized}
 use Rattle.meaning.specs.File.Parser.{Got, found, fault}
 use Rattle.meaning.specs.File.Number.{choose}
 use Rattle.meaning.specs.File.Grammar.{Contents, instrumentOf, readFile}
@@ -74,14 +74,13 @@ lookupOf I s = choose (asksState I s) (choose (leb (mergedSize I) mostCombined) 
 unfoldable pub lookupReply : List ℕ → List ℕ → Reply Bool
 lookupReply file s = replyAfter (readFile file) (λ I. lookupOf I s)
 
--- the verdict with its stage; numbers 14 and 12
+-- the verdict with its stage; number 12
 pub record Judgement : Type 0 where
   pub verdict : Verdict
   pub stage : Stage
 
 abbrev pub judgement : Answer → Reply Judgement
 judgement (judged v g) = given (record { verdict = v; stage = g })
-judgement clash = denied 14
 judgement oversized = denied 12
 
 abbrev pub verdictOf : Instrument → Answer

@@ -3,7 +3,7 @@ use Prim.Native.Nat.{ℕ}
 use Rattle.meaning.specs.File.Parser.{Got, found, fault}
 use Rattle.cursor.specs.declared.Refusal.{Refusal}
 use Rattle.cursor.specs.declared.Refusal.the-variants.{Ended, Form, Range, Order, Driven, Bits, Formula, Undriven, Start, Trailing}
-use Rattle.cursor.specs.declared.Refusal.the-variants.{FullSize, MergedSize, Short, Clash}
+use Rattle.cursor.specs.declared.Refusal.the-variants.{FullSize, MergedSize, Short}
 use Rattle.cursor.specs.declared.Wide.{Wide}
 use Rattle.cursor.specs.declared.Wide.the-variants.{Whole, Unread}
 use Rattle.cursor.specs.declared.Read.{Read}
@@ -37,8 +37,6 @@ number FullSize = 11
 number MergedSize = 12
 -- a lent result that is shorter than its entries
 number Short = 13
--- a start marked PASS by one component and FAIL by another
-number Clash = 14
 
 abbrev pub gotWide : Wide → Got ℕ
 gotWide (Whole v next) = found v (next .at)

@@ -10,7 +10,7 @@ ghost use Rattle.cursor.specs.Answers.{number, got, gotWide};
 ghost use Rattle.cursor.specs.Carried.{carried};
 ghost use Rattle.cursor.specs.Width.{numberEnd};
 
-// Why a call is refused, in the order of document 01's numbers, 1 to 14.
+// Why a call is refused, in the order of document 01's numbers, 1 to 13 (14 is not used: document 02, 6/14).
 pub enum Refusal {
     Ended,
     Form,
@@ -25,7 +25,6 @@ pub enum Refusal {
     FullSize,
     MergedSize,
     Short,
-    Clash,
 }
 
 impl Refusal {
@@ -47,7 +46,6 @@ impl Refusal {
             Refusal::FullSize => 11,
             Refusal::MergedSize => 12,
             Refusal::Short => 13,
-            Refusal::Clash => 14,
         }
     }
 }

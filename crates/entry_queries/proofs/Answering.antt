@@ -44,7 +44,6 @@ number-some refusals.Trailing e = absurd (omega arith)
 number-some refusals.FullSize e = absurd (omega arith)
 number-some refusals.MergedSize e = absurd (omega arith)
 number-some refusals.Short e = absurd (omega arith)
-number-some refusals.Clash e = absurd (omega arith)
 
 -- what the reader found
 pub refused-fault : (g : Got Contents) (cause : Refusal) → Tells (outcomes.Refused cause) g → g ≡ fault (number cause)

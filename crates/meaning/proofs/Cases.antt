@@ -34,7 +34,7 @@ use Rattle.meaning.specs.Reference.WellFormed.{acceptedB, isStartB}
 use Rattle.meaning.specs.Relation.{Rel}
 use Rattle.meaning.specs.Table.{Table}
 use Rattle.meaning.specs.Tests.{All}
-use Rattle.meaning.specs.Verdict.{Answer, HasFail, HasPass, Right, Stage, Verdict, clash, fails, holds, judged, marks, merged}
+use Rattle.meaning.specs.Verdict.{Answer, Right, Stage, Verdict, fails, holds, judged, marks, merged}
 use Rattle.meaning.specs.Verdict.{oversized}
 use Rattle.meaning.specs.View.{View, wholeWords}
 use Rattle.meaning.proofs.Basic.Booleans.{and-in, and-l, and-r, beq-eq, conj}
@@ -82,13 +82,8 @@ stageIs merged merged = true
 
 abbrev answerIs : Answer → Answer → Bool
 answerIs (judged v g) (judged w h) = verdictIs v w && stageIs g h
-answerIs (judged v g) clash = false
 answerIs (judged v g) oversized = false
-answerIs clash (judged v g) = false
-answerIs clash clash = true
-answerIs clash oversized = false
 answerIs oversized (judged v g) = false
-answerIs oversized clash = false
 answerIs oversized oversized = true
 
 verdict-eq : (v w : Verdict) → T (verdictIs v w) → v ≡ w
@@ -105,13 +100,8 @@ stage-eq merged merged h = refl
 
 answer-eq : (a b : Answer) → T (answerIs a b) → a ≡ b
 answer-eq (judged v g) (judged w h) t = ap₂ judged (verdict-eq v w (search conj)) (stage-eq g h (search conj))
-answer-eq (judged v g) clash t = absurd t
 answer-eq (judged v g) oversized t = absurd t
-answer-eq clash (judged v g) t = absurd t
-answer-eq clash clash t = refl
-answer-eq clash oversized t = absurd t
 answer-eq oversized (judged v g) t = absurd t
-answer-eq oversized clash t = absurd t
 answer-eq oversized oversized t = refl
 
 module _ (I : Instrument) where
@@ -270,8 +260,8 @@ module _ (I : Instrument) where
       start-state,
       all-map writes (I .starts) (accepted .starts),
       subst
-          (Right (λ x. HasPass n S κ ρ (stateOf x)) (λ x. HasFail n S κ ρ (stateOf x)) (λ x. Truth n S (high n S) ρ (start-state x)) (I .starts)
-          (mergedCount n S cls ≤ 4096)) (answer-eq (verdictB n S κ ρ 4096 (I .signals) (high n S) stateOf (I .starts)) a h)
+          (Right n S κ ρ (Truth n S (high n S) ρ) start-state (I .starts) (mergedCount n S cls ≤ 4096))
+          (answer-eq (verdictB n S κ ρ 4096 (I .signals) (high n S) stateOf (I .starts)) a h)
           (verdict-right n S (I .signals) good (high n S) κ fits ρ 4096 start-state (I .starts)),
     )
 

@@ -1,12 +1,14 @@
 -- What is proved of document 01, in the order of the demands: over its atoms (signals), what it compares (whole output words) and the classes
--- of its one root. The general theorems behind it are those of Demands, Marks/Partners and Classes/Described.
+-- of its one root. The general theorems behind it are those of Demands, Marks/Partners and Classes/Described. The last theorem is that of document 02, 6/14.
 use mathlib.Core.Path.{_≡_, refl}
-use mathlib.Core.Logic.{_↔_, inl, inr}
-use mathlib.Core.List.{List, [], _∷_}
+use mathlib.Core.Logic.{_↔_}
+use mathlib.Core.List.{List}
 use lib.Dec.{T}
 use Prim.Native.Nat.{_<_, _≤_, ℕ}
 use Rattle.meaning.specs.Classes.{ClassNames}
 use Rattle.meaning.specs.Combination.{State, Truth, count, high, index}
+use Rattle.meaning.specs.File.Grammar.{Contents, instrumentOf, readFile}
+use Rattle.meaning.specs.File.Parser.{found}
 use Rattle.meaning.specs.Formula.{Formula}
 use Rattle.meaning.specs.Instrument.{Accepted, Instrument, WellFormed, components, rootFormula, rootNode, table}
 use Rattle.meaning.specs.Marks.{Fail, Pass}
@@ -17,12 +19,13 @@ use Rattle.meaning.specs.Reference.Truth.{truthB}
 use Rattle.meaning.specs.Reference.Verdict.{rootClasses, verdictB}
 use Rattle.meaning.specs.Relation.{Rel}
 use Rattle.meaning.specs.Table.{Table}
-use Rattle.meaning.specs.Verdict.{Clash, HasFail, HasPass, Right}
+use Rattle.meaning.specs.Verdict.{Right}
 use Rattle.meaning.specs.View.{View, wholeWords}
 use Rattle.meaning.proofs.Classes.Described.{Described}
 use Rattle.meaning.proofs.Demands.{described-inside, full-onto, full-way, lookup-paths, marks-inside, merged-bits, merged-index}
 use Rattle.meaning.proofs.Demands.{merged-paths, merged-state, no-clash, root-class-names, root-equivalence, under-kept}
 use Rattle.meaning.proofs.Demands.{verdict-right}
+use Rattle.meaning.proofs.File.Accepted.{file-accepted}
 use Rattle.meaning.proofs.File.Formulas.{Under}
 use Rattle.meaning.proofs.File.Nodes.{beneath-under}
 use Rattle.meaning.proofs.Marks.Laws.{Fits}
@@ -134,13 +137,15 @@ module _ (I : Instrument) (accepted : Accepted I) where
       lookup-paths n S W good (high n S) κ fits (λ i. Rel (S i) (κ i) ρ) (root-equivalence n S W good (high n S) κ fits ρ) cls classes-01 ρ
       (under-kept n S W good (high n S) κ fits ρ ρ Under.itself)
 
-  -- the verdict on combined states is the right one, and is never number 14
+  -- the verdict on combined states is the right one
   pub verdict-01 : (ss : List (State n S))
-      → Right (λ s. HasPass n S κ ρ (s .at)) (λ s. HasFail n S κ ρ (s .at)) (Truth n S (high n S) ρ) ss (mergedCount n S cls ≤ 4096)
+      → Right n S κ ρ (Truth n S (high n S) ρ) (λ s. s) ss (mergedCount n S cls ≤ 4096)
       (verdictB n S κ ρ 4096 W (high n S) (λ s. s .at) ss)
   verdict-01 = verdict-right n S W good (high n S) κ fits ρ 4096 (λ s. s)
 
-  pub never-14 : (ss : List (State n S)) → Clash (λ s. HasPass n S κ ρ (s .at)) (λ s. HasFail n S κ ρ (s .at)) (Truth n S (high n S) ρ) ss → ⊥
-  never-14 [] h = h
-  never-14 (s ∷ ss) (inl (p, f)) = no-clash n S W good (high n S) κ fits ρ s (p .0) (f .0) (p .1) (f .1) (p .2) (f .2)
-  never-14 (s ∷ ss) (inr h) = never-14 ss h
+-- REQUEST 6/14: no accepted file has a combined state that is PASS for a node by one component and FAIL for the same node by another
+pub never-clashes : (file : List ℕ) (c : Contents) (e : ℕ) → readFile file ≡ found c e → let I = instrumentOf c in
+    (k : ℕ) (s : State (components I) (table I)) (i j : ℕ) → i < components I → j < components I
+    → Pass (table I i) (wholeWords (table I i)) (formulaAt (I .nodes) k) (s .at i)
+    → Fail (table I j) (wholeWords (table I j)) (formulaAt (I .nodes) k) (s .at j) → ⊥
+never-clashes file c e q = no-clash-01 (instrumentOf c) (file-accepted file c e q)

@@ -120,8 +120,7 @@ module _
 
       -- the verdict on starts of any form, read as combined states
       pub verdict-right : (limit : ℕ) {X : Type 0} (f : X → State n S) (ss : List X)
-          → Right (λ x. HasPass n S κ ρ (f x .at)) (λ x. HasFail n S κ ρ (f x .at)) (λ x. Truth n S val ρ (f x))
-          ss (mergedCount n S rootCls ≤ limit) (verdictB n S κ ρ limit W val (λ x. f x .at) ss)
+          → Right n S κ ρ (Truth n S val ρ) f ss (mergedCount n S rootCls ≤ limit) (verdictB n S κ ρ limit W val (λ x. f x .at) ss)
       verdict-right limit f =
           right (λ x. HasPass n S κ ρ (f x .at)) (λ x. HasFail n S κ ρ (f x .at)) (λ x. Truth n S val ρ (f x)) (mergedCount n S rootCls ≤ limit)
           (λ x. hasPassB n S κ ρ (f x .at)) (λ x. hasFailB n S κ ρ (f x .at)) (λ x. lookupB n S rootCls κ val W ρ (f x .at))

@@ -1,5 +1,5 @@
 -- No theorem speaks of nothing: what the public theorems assume is met by the pair and the chain of document 01, read from their bytes, and by a
--- partner that no file could hold. Premises that exclude each other, as in no-clash and never-14, and excluded middle in
+-- partner that no file could hold. Premises that exclude each other, as in no-clash and never-clashes, and excluded middle in
 -- each-classical are not among them.
 use mathlib.Core.Path.{refl}
 use mathlib.Core.Logic.{_≢_, inl}
@@ -25,7 +25,7 @@ use Rattle.meaning.specs.Reference.Verdict.{rootClasses}
 use Rattle.meaning.specs.Relation.{Rel}
 use Rattle.meaning.specs.StepWords.{Steps}
 use Rattle.meaning.specs.Table.{Table, Total, owns}
-use Rattle.meaning.specs.Verdict.{HasFail, HasPass, Right, holds, judged, merged}
+use Rattle.meaning.specs.Verdict.{Right, holds, judged, merged}
 use Rattle.meaning.specs.View.{View, wholeWords}
 use Rattle.meaning.proofs.Basic.Lists.{all-listed}
 use Rattle.meaning.proofs.Basic.Equivalence.{Equivalence}
@@ -159,8 +159,8 @@ unfolding digit
 words-met = inl (λ i. tt)
 
 -- a right answer
-pub right-met : Right (λ s. HasPass 2 S κ ρ (s .at)) (λ s. HasFail 2 S κ ρ (s .at)) (Truth 2 S (high 2 S) ρ)
-    (start-state (0 ∷ 0 ∷ []) start-met ∷ []) (mergedCount 2 S cls ≤ 4096) (judged holds merged)
+pub right-met : Right 2 S κ ρ (Truth 2 S (high 2 S) ρ) (λ s. s) (start-state (0 ∷ 0 ∷ []) start-met ∷ []) (mergedCount 2 S cls ≤ 4096)
+    (judged holds merged)
 unfolding digit built
 right-met = verdict-01 pairI accepted-met (start-state (0 ∷ 0 ∷ []) start-met ∷ [])
 

@@ -18,7 +18,7 @@ use Rattle.meaning.specs.Marks.{Pass, Fail}
 use Rattle.meaning.specs.Relation.{Rel}
 use Rattle.meaning.specs.Classes.{ClassNames}
 use Rattle.meaning.specs.Merged.{mergedTables, mergedSizes, mergedCount, mergedIndex, MergedTruth}
-use Rattle.meaning.specs.Verdict.{Answer, judged, holds, fails, marks, merged, Right, HasPass, HasFail}
+use Rattle.meaning.specs.Verdict.{Answer, judged, holds, fails, marks, merged, Right}
 
 -- What a case says of a file: it is refused, or something of its root. Sets are words, bit t for state t; full and merged words have bit k for node k; a start is its
 -- states in component order.
@@ -76,8 +76,7 @@ module _ (I : Instrument) where
   Means (combinations m f) = (cls : ℕ → ℕ → ℕ) × RootClasses cls × (mergedCount n S cls ≡ m) × (count n sizes ≡ f)
   Means (verdict a) =
       (cls : ℕ → ℕ → ℕ) × RootClasses cls × (f : List ℕ → State n S) × All (λ start. Writes start (f start)) (I .starts)
-      × Right (λ x. HasPass n S κ (rootFormula I) (f x .at)) (λ x. HasFail n S κ (rootFormula I) (f x .at))
-      (λ x. Truth n S (high n S) (rootFormula I) (f x)) (I .starts) (mergedCount n S cls ≤ 4096) a
+      × Right n S κ (rootFormula I) (Truth n S (high n S) (rootFormula I)) f (I .starts) (mergedCount n S cls ≤ 4096) a
 
 -- what a fact says of a file as it was read: the refusal, or an instrument that is as promised and has the fact
 abbrev pub Reads : Got Contents → Fact → Type 0

@@ -41,7 +41,7 @@ fn write_lines(t: Outline, names: AllNames, holds: bool, by_marks: bool, out: &m
     Written::Entries(n)
 }
 
-// The same with its own verdict, from marks and names that are asked for once: 14, 12, then 13.
+// The same with its own verdict, from marks and names that are asked for once: 12, then 13.
 fn write_listing(t: Outline, nexts: &[StateSet], out: &mut [u8]) -> Written
     requires { ⌜ ((k : Contents) × Describes (whole t (now nexts)) k) ⌝ }
     ensures { λ r. ⌜ ((k : Contents) → Describes (whole t (now (nexts .entry))) k → Answered (listed (instrumentOf k) (length (now (out .entry))) (judgement (verdictOf (instrumentOf k)))) r (now (out .entry)) (now (out .exit))) ⌝ }
@@ -49,7 +49,6 @@ fn write_listing(t: Outline, nexts: &[StateSet], out: &mut [u8]) -> Written
     let marks = all_marks(t, nexts);
     let names = partitions::marked_classes(t, nexts, marks);
     match verdict::judge_prepared(t, nexts, marks, names) {
-        Verdict::Clash => Written::Refused(Refusal::Clash),
         Verdict::Oversized => Written::Refused(Refusal::MergedSize),
         Verdict::Marks(holds) => write_lines(t, names, holds, true, out),
         Verdict::Merged(holds) => write_lines(t, names, holds, false, out),

@@ -1,6 +1,6 @@
 -- What the loop over the starts keeps.
 use mathlib.Core.Path.{_≡_}
-use mathlib.Core.Bool.{Bool, _&&_}
+use mathlib.Core.Bool.{Bool}
 use mathlib.Core.List.{List, []}
 use lib.ListN.{getD}
 use Prim.Native.Nat.{ℕ, _≤_}
@@ -18,8 +18,7 @@ abbrev pub startIn : List ℕ → List ℕ → ℕ → ℕ → Bool
 startIn sets starts n j = anyBelow n (inSet sets (startStates starts j))
 
 -- the first j starts are counted in
-pub record Tallied (passes fails starts : List ℕ) (n count j : ℕ) (clash failing passing : Bool) : Type 0 where
+pub record Tallied (passes fails starts : List ℕ) (n count j : ℕ) (failing passing : Bool) : Type 0 where
   pub reached : j ≤ count
-  pub clash-is : clash ≡ anyBelow j (λ j. startIn passes starts n j && startIn fails starts n j)
   pub failing-is : failing ≡ anyBelow j (startIn fails starts n)
   pub passing-is : passing ≡ allBelow j (startIn passes starts n)

@@ -1,4 +1,4 @@
-// What the marks at the root say of all starts (document 01, Verdict and listing; Refused, number 14).
+// What the marks at the root say of all starts (document 01, Verdict and listing).
 ghost use mathlib.Core.Path.{_≡_};
 ghost use mathlib.Core.List.{List};
 ghost use Prim.Native.Nat.{ℕ, _+_, _*_, _≤_, _<_};
@@ -14,9 +14,8 @@ use mark_rules::Mark;
 use marks::AllMarks;
 use state_words::StateSet;
 
-// Whether some start has a PASS state and a FAIL state, some start has a FAIL state, every start has a PASS state.
+// Whether some start has a FAIL state, and whether every start has a PASS state.
 pub struct Tally {
-    pub clash: bool,
     pub failing: bool,
     pub passing: bool,
 }
@@ -86,7 +85,6 @@ pub fn tally_starts(t: Outline, marks: AllMarks) -> Tally
     requires { ⌜ ((nexts : List ℕ) × (k : Contents) × MarkedInstrument (whole t nexts) marks k) ⌝ }
     ensures { λ r. ⌜ ((nexts : List ℕ) (k : Contents) → MarkedInstrument (whole t nexts) marks k → r ≡ tallyOf (instrumentOf k)) ⌝ }
 {
-    let mut clash = false;
     let mut failing = false;
     let mut passing = true;
     let starts = t.starts;
@@ -100,14 +98,9 @@ pub fn tally_starts(t: Outline, marks: AllMarks) -> Tally
         let states = start_states(&starts, j);
         let pass = start_marked(passes, states, n);
         let fail = start_marked(fails, states, n);
-        clash = (pass & fail) | clash;
         failing = fail | failing;
         passing = pass & passing;
         j += 1;
     }
-    Tally {
-        clash,
-        failing,
-        passing,
-    }
+    Tally { failing, passing }
 }

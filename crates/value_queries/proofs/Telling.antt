@@ -5,7 +5,7 @@ use mathlib.Core.List.{List}
 use lib.Dec.{T, eqb, ltb, leb, ltb→lt}
 use lib.ListN.{getD}
 use native.Mathlib.Omega.{arith}
-use borrow.Author.Tests.{lt-ltb, le-ltb, le-leb, lt-leb}
+use borrow.Author.Tests.{lt-ltb, le-leb, lt-leb}
 use Prim.Native.Nat.{ℕ, _≤_, _<_}
 use Rattle.meaning.specs.Instrument.{Instrument, components, table}
 use Rattle.meaning.specs.Verdict.{Answer}
@@ -135,7 +135,6 @@ by-merging false = refl
 
 judged-answer : (a : Answer) (j : Judgement) → judgement a ≡ given j → a ≡ Answer.judged (j .verdict) (j .stage)
 judged-answer (Answer.judged v g) j e = let q = given-same e in ap (λ j. Answer.judged (j .verdict) (j .stage)) q
-judged-answer Answer.clash j e = absurd (denied-given e)
 judged-answer Answer.oversized j e = absurd (denied-given e)
 
 pub verdict-holds : {file : List ℕ} {t : code.Instrument} (h : Found file t) (j : Judgement) → judgement (verdictOf (instrumentOf (h .contents))) ≡ given j

@@ -125,7 +125,7 @@ pub fn lookup(file: &[u8], s0: u32, s1: u32, s2: u32, s3: u32) -> Looked
     }
 }
 
-// The verdict on the instrument of an accepted file: 14, then 12.
+// The verdict on the instrument of an accepted file: 12 alone.
 fn judge(t: Outline, nexts: &[StateSet]) -> Judged
     requires { ⌜ ((k : Contents) × Describes (whole t (now nexts)) k) ⌝ }
     ensures { λ r. ⌜ ((k : Contents) → Describes (whole t (now (nexts .entry))) k → judgedReply r ≡ judgement (verdictOf (instrumentOf k))) ⌝ }
@@ -133,7 +133,6 @@ fn judge(t: Outline, nexts: &[StateSet]) -> Judged
     match verdict::judge(t, nexts) {
         Verdict::Marks(holds) => Judged::Marks(holds),
         Verdict::Merged(holds) => Judged::Merged(holds),
-        Verdict::Clash => Judged::Refused(Refusal::Clash),
         Verdict::Oversized => Judged::Refused(Refusal::MergedSize),
     }
 }

@@ -1,4 +1,4 @@
--- What each answer of the code is in document 01's words (Verdict and listing; Refused, numbers 12 and 14).
+-- What each answer of the code is in document 01's words (Verdict and listing; Refused, number 12).
 use mathlib.Core.Bool.{true, false}
 use lib.Dec.{leb}
 use Rattle.meaning.specs.Instrument.{Instrument}
@@ -6,18 +6,17 @@ use Rattle.meaning.specs.Reference.Answers.{mergedSize}
 use Rattle.meaning.specs.Reference.Tests.{allOf}
 use Rattle.meaning.specs.Reference.Verdict.{staged}
 use Rattle.answers.specs.Outcomes.{lookedUp, mostCombined}
-use Rattle.meaning.specs.Verdict.{Answer, judged, clash, oversized, holds, fails, marks, merged}
+use Rattle.meaning.specs.Verdict.{Answer, judged, oversized, holds, fails, marks, merged}
 use Rattle.verdict.specs.declared.Verdict.{Verdict}
 use Rattle.verdict.specs.declared.Told as told
-use Rattle.verdict.specs.declared.Verdict.the-variants.{Marks, Merged, Clash, Oversized}
+use Rattle.verdict.specs.declared.Verdict.the-variants.{Marks, Merged, Oversized}
 
--- by marks or by merged words: holds, or fails; 14; 12
+-- by marks or by merged words: holds, or fails; 12
 abbrev pub answerOf : Verdict → Answer
 answerOf (Marks true) = judged holds marks
 answerOf (Marks false) = judged fails marks
 answerOf (Merged true) = judged holds merged
 answerOf (Merged false) = judged fails merged
-answerOf Clash = clash
 answerOf Oversized = oversized
 
 -- what the marks tell, or else another answer
@@ -27,4 +26,4 @@ orElse told.the-variants.Nothing a = a
 
 -- the answer where marks do not decide: 12, or whether every start is answered with true in the merged words
 abbrev pub mergedStage : Instrument → Answer
-mergedStage I = staged false false false (leb (mergedSize I) mostCombined) (allOf (lookedUp I) (I .starts))
+mergedStage I = staged false false (leb (mergedSize I) mostCombined) (allOf (lookedUp I) (I .starts))

@@ -1,5 +1,5 @@
--- The verdict, computed in document 01's order: 14, then a FAIL start, then PASS starts only, then 12, then the merged combination.
-use mathlib.Core.Bool.{Bool, true, false, _&&_}
+-- The verdict, computed in document 01's order: a FAIL start, then PASS starts only, then 12, then the merged combination.
+use mathlib.Core.Bool.{Bool, true, false}
 use mathlib.Core.List.{List}
 use lib.Dec.{leb}
 use Prim.Native.Nat.{ℕ}
@@ -8,23 +8,22 @@ use Rattle.meaning.specs.Table.{Table}
 use Rattle.meaning.specs.Formula.{Formula}
 use Rattle.meaning.specs.View.{View}
 use Rattle.meaning.specs.Merged.{mergedCount}
-use Rattle.meaning.specs.Verdict.{Answer, judged, clash, oversized, holds, fails, marks, merged}
+use Rattle.meaning.specs.Verdict.{Answer, judged, oversized, holds, fails, marks, merged}
 use Rattle.meaning.specs.Reference.Tests.{allOf, anyOf}
 use Rattle.meaning.specs.Reference.Marks.{passB, failB}
 use Rattle.meaning.specs.Reference.Relation.{rootClass}
 use Rattle.meaning.specs.Reference.Merged.{lookupB}
 
--- from: some start is marked PASS and FAIL, some FAIL, all PASS, there is room, all satisfy the root
-abbrev pub staged : Bool → Bool → Bool → Bool → Bool → Answer
-staged true f p room r = clash
-staged false true p room r = judged fails marks
-staged false false true room r = judged holds marks
-staged false false false false r = oversized
-staged false false false true true = judged holds merged
-staged false false false true false = judged fails merged
+-- from: marks tell that it fails, that it holds, there is room, all satisfy the root
+abbrev pub staged : Bool → Bool → Bool → Bool → Answer
+staged true p room r = judged fails marks
+staged false true room r = judged holds marks
+staged false false false r = oversized
+staged false false true true = judged holds merged
+staged false false true false = judged fails merged
 
 abbrev pub answerB : {X : Type 0} → (X → Bool) → (X → Bool) → (X → Bool) → Bool → List X → Answer
-answerB pass fail root room ss = staged (anyOf (λ s. pass s && fail s) ss) (anyOf fail ss) (allOf pass ss) room (allOf root ss)
+answerB pass fail root room ss = staged (anyOf fail ss) (allOf pass ss) room (allOf root ss)
 
 module _ (n : ℕ) (S : ℕ → Table) {A : Type 0} (κ : ℕ → View A) (ρ : Formula A) where
   abbrev pub hasPassB : (ℕ → ℕ) → Bool

@@ -6,21 +6,6 @@ use borrow.Author.Needs.{needs}
 use Rattle.value_queries.proofs.judge.Statement.{statement}
 use Rattle.value_queries.proofs.judge.Tie as tie
 
-judge-requires : tie.Need-judge-requires
-judge-requires c κs = search needs
-
-enum-known-holds : tie.Need-enum-known-holds
-enum-known-holds c = search needs
-
-enum-known-holds-2 : tie.Need-enum-known-holds-2
-enum-known-holds-2 c = search needs
-
-enum-told : tie.Need-enum-told
-enum-told c = search needs
-
-enum-told-2 : tie.Need-enum-told-2
-enum-told-2 c = search needs
-
 returns : tie.Need-returns
 returns c =
     λ k d.
@@ -36,19 +21,7 @@ returns-2 c =
 returns-3 : tie.Need-returns-3
 returns-3 c = λ k d. ap (λ v. judgement (answerOf v)) (sym (c .enum-told .given .1)) ∙ ap judgement (c .before .before .judge .ensures k d)
 
-returns-4 : tie.Need-returns-4
-returns-4 c = λ k d. ap (λ v. judgement (answerOf v)) (sym (c .enum-told2 .given .1)) ∙ ap judgement (c .before .before .judge .ensures k d)
-
 pub judge-spec : {M : Type 1} → statement M
 judge-spec =
     tie.close
-    (tie.spec
-    judge-requires
-    enum-known-holds
-    enum-known-holds-2
-    enum-told
-    enum-told-2
-    returns
-    returns-2
-    returns-3
-    returns-4)
+    (tie.spec (λ c κs. search needs) (λ c. search needs) (λ c. search needs) (λ c. search needs) returns returns-2 returns-3)

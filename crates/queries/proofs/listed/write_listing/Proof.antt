@@ -1,7 +1,7 @@
 use mathlib.Core.Path.{_≡_, sym, subst, ap, _∙_}
 use lib.ListN.{length}
 use Rattle.meaning.specs.File.Grammar.{Contents, instrumentOf}
-use Rattle.cursor.specs.declared.Refusal.the-variants.{Clash, MergedSize}
+use Rattle.cursor.specs.declared.Refusal.the-variants.{MergedSize}
 use Rattle.instrument.specs.Described.{Describes}
 use Rattle.instrument.specs.Outline.{whole}
 use Rattle.merged_words.specs.Prepared.{Prepared}
@@ -55,20 +55,11 @@ returns c =
     let v = c .before .before in
     let old = v .before .before .before .before .before .args .out .now in
     let I = instrumentOf k in
-    subst (λ a. Answered (listed I (length old) (judgement a)) (Refused Clash) old old) (ap answerOf (sym (c .enum-told .given .1)) ∙ judged v k d)
-    (listed-refused I (length old) Clash old)
+    subst (λ a. Answered (listed I (length old) (judgement a)) (Refused MergedSize) old old) (ap answerOf (sym (c .enum-told .given .1)) ∙ judged v k d)
+    (listed-refused I (length old) MergedSize old)
 
 returns-2 : tie.Need-returns-2
 returns-2 c =
-    λ k d.
-    let v = c .before .before in
-    let old = v .before .before .before .before .before .args .out .now in
-    let I = instrumentOf k in
-    subst (λ a. Answered (listed I (length old) (judgement a)) (Refused MergedSize) old old) (ap answerOf (sym (c .enum-told2 .given .1)) ∙ judged v k d)
-    (listed-refused I (length old) MergedSize old)
-
-returns-3 : tie.Need-returns-3
-returns-3 c =
     λ k d.
     let w = c .before .before in
     let h = w .before .before .before in
@@ -78,8 +69,8 @@ returns-3 c =
     (by-marks (h .holds .given .0 .0) ∙ ap (λ v. judgement (answerOf v)) (sym (h .holds .given .1)) ∙ ap judgement (judged v k d))
     (w .write-lines .ensures _ k d (prepared (v .before) k d .named))
 
-returns-4 : tie.Need-returns-4
-returns-4 c =
+returns-3 : tie.Need-returns-3
+returns-3 c =
     λ k d.
     let w = c .before .before in
     let h = w .before .before .before in
@@ -98,13 +89,11 @@ write-listing-spec =
     judge-prepared-requires
     (λ c. search needs)
     (λ c. search needs)
-    (λ c. search needs)
     write-lines-requires
     (λ c. search needs)
     write-lines-requires-2
     returns
+    (λ c. search needs)
     returns-2
     (λ c. search needs)
-    returns-3
-    (λ c. search needs)
-    returns-4)
+    returns-3)
