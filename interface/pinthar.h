@@ -6,7 +6,7 @@
  * Slices. A file is a pointer and the number of its bytes; a lent buffer is a pointer and the number of its entries. An empty one may have
  * any pointer that is aligned for its entries and not null. The file and the buffer must not overlap. Nothing else is asked of a caller.
  *
- * Results. The upper 32 bits are 0, or the number of the refusal, 1 to 14; the lower 32 bits are the answer, 0 where it is refused. A
+ * Results. The upper 32 bits are 0, or the number of the refusal, 1 to 13; the lower 32 bits are the answer, 0 where it is refused. A
  * refused call leaves every lent buffer as it was. Entries past the result are left as they were.
  *
  * Stack. The functions hold their tables on the caller's stack, and a smaller stack is overrun without notice. PINTHAR_STACK bytes are
@@ -29,22 +29,21 @@ extern "C" {
 #define PINTHAR_REFUSAL(result) ((uint32_t)((result) >> 32))
 #define PINTHAR_ANSWER(result) ((uint32_t)((result) & 0xffffffffu))
 
-/* Refusals. */
+/* Refusals. Number 14 is not used any more. */
 enum {
-    PINTHAR_FILE_ENDS = 1,             /* file ends inside or before a number */
-    PINTHAR_NUMBER_FORM = 2,           /* form not shortest, or above 2^64 - 1 */
-    PINTHAR_OUTSIDE_RANGE = 3,         /* count, or asked component number, outside its range */
-    PINTHAR_LISTED_SIGNAL = 4,         /* listed signal not ascending or not below W */
-    PINTHAR_OUTPUT_TAKEN = 5,          /* output already driven, or also an own input */
-    PINTHAR_WORD_OR_SET = 6,           /* output word or successor set with a bit too high, or empty set */
-    PINTHAR_KIND_OR_OPERAND = 7,       /* unknown kind, or operand not an earlier node */
-    PINTHAR_UNDRIVEN_SIGNAL = 8,       /* formula names a signal that no component drives */
-    PINTHAR_NO_SUCH_STATE = 9,         /* start or asked state not in its component */
-    PINTHAR_BYTES_AFTER_STARTS = 10,   /* bytes after the last start */
-    PINTHAR_FULL_TOO_LARGE = 11,       /* full combination over 4,096 states */
-    PINTHAR_MERGED_TOO_LARGE = 12,     /* merged combination over 4,096 states */
-    PINTHAR_BUFFER_TOO_SHORT = 13,     /* lent result shorter than its entries */
-    PINTHAR_START_MARKED_BOTH_WAYS = 14 /* a start marked PASS by one component and FAIL by another */
+    PINTHAR_FILE_ENDS = 1,           /* file ends inside or before a number */
+    PINTHAR_NUMBER_FORM = 2,         /* form not shortest, or above 2^64 - 1 */
+    PINTHAR_OUTSIDE_RANGE = 3,       /* count, or asked component number, outside its range */
+    PINTHAR_LISTED_SIGNAL = 4,       /* listed signal not ascending or not below W */
+    PINTHAR_OUTPUT_TAKEN = 5,        /* output already driven, or also an own input */
+    PINTHAR_WORD_OR_SET = 6,         /* output word or successor set with a bit too high, or empty set */
+    PINTHAR_KIND_OR_OPERAND = 7,     /* unknown kind, or operand not an earlier node */
+    PINTHAR_UNDRIVEN_SIGNAL = 8,     /* formula names a signal that no component drives */
+    PINTHAR_NO_SUCH_STATE = 9,       /* start or asked state not in its component */
+    PINTHAR_BYTES_AFTER_STARTS = 10, /* bytes after the last start */
+    PINTHAR_FULL_TOO_LARGE = 11,     /* full combination over 4,096 states */
+    PINTHAR_MERGED_TOO_LARGE = 12,   /* merged combination over 4,096 states */
+    PINTHAR_BUFFER_TOO_SHORT = 13    /* lent result shorter than its entries */
 };
 
 /* So many entries are room enough for every file. */
@@ -68,14 +67,14 @@ uint64_t pinthar_class_names(const uint8_t *file, size_t file_size, uint8_t *out
 uint64_t pinthar_merged_words(const uint8_t *file, size_t file_size, uint32_t *out, size_t out_size);
 
 /* The listing program's lines: writes their bytes, each line ending with byte 10 and no byte 0 after the last, and answers how many.
- * 1 to 10, 14, 12, 13. */
+ * 1 to 10, 12, 13. */
 uint64_t pinthar_listing(const uint8_t *file, size_t file_size, uint8_t *out, size_t out_size);
 
 /* The lookup: answers 1 if the root is true in the combined state of these states, in component order, and 0 if it is false. Numbers past
  * the last component must be 0. 1 to 10 (9 also for the asked state), 12. */
 uint64_t pinthar_lookup(const uint8_t *file, size_t file_size, uint32_t s0, uint32_t s1, uint32_t s2, uint32_t s3);
 
-/* The verdict on the starts and the stage that gives it. 1 to 10, 14, 12. */
+/* The verdict on the starts and the stage that gives it. 1 to 10, 12. */
 enum { PINTHAR_FAILS_MARKS = 0, PINTHAR_HOLDS_MARKS = 1, PINTHAR_FAILS_MERGED = 2, PINTHAR_HOLDS_MERGED = 3 };
 uint64_t pinthar_verdict(const uint8_t *file, size_t file_size);
 

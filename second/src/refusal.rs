@@ -15,7 +15,6 @@ pub enum Refusal {
     FullTooLarge = 11,
     MergedTooLarge = 12,
     LentResultTooShort = 13,
-    StartMarkedBothWays = 14,
 }
 
 impl Refusal {

@@ -28,13 +28,9 @@ impl Verdict {
     }
 }
 
-/// 14 is tested over all starts before any stage; 12 is given only if marks do
-/// not decide.
+/// 12 is given only if marks do not decide.
 pub fn verdict(bench: &Bench) -> Result<Verdict, Refusal> {
     let starts = &bench.instrument.starts;
-    if starts.iter().any(|start| has_pass(bench, start) && has_fail(bench, start)) {
-        return Err(Refusal::StartMarkedBothWays);
-    }
     if starts.iter().any(|start| has_fail(bench, start)) {
         return Ok(Verdict { holds: false, stage: Stage::Marks });
     }

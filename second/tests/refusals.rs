@@ -51,15 +51,3 @@ fn a_short_buffer_is_thirteen_and_a_long_one_keeps_its_end() {
     assert_eq!(put(&queries.full(), &mut lent), Ok(3));
     assert_eq!(lent, [1, 1, 0, 9, 9]);
 }
-
-#[test]
-fn a_start_marked_both_ways_is_fourteen() {
-    // No file leads there, so the marks are changed by hand.
-    let file = second::examples::pair_from(1, 0);
-    let mut bench = Queries::of(&file).expect("a good file").bench;
-    assert!(bench.marks[0][1].fail[1]);
-    bench.marks[1][1].pass[0] = true;
-    let refusal = second::verdict::verdict(&bench).err();
-    assert_eq!(refusal, Some(Refusal::StartMarkedBothWays));
-    assert_eq!(second::listing::listing(&bench).err(), Some(Refusal::StartMarkedBothWays));
-}

@@ -19,7 +19,12 @@ fn no_violation_and_everything_is_met() {
     for verdict in ["holds marks", "fails marks", "holds merged", "fails merged", "refused 12"] {
         assert!(counts.of(&format!("verdicts {verdict}")) > 0, "{verdict}");
     }
-    for name in ["merges that are real", "full above 4,096 and merged not", "truths by lassos"] {
+    for name in [
+        "merges that are real",
+        "full above 4,096 and merged not",
+        "truths by lassos",
+        "pairs of components never marked both ways",
+    ] {
         assert!(counts.of(name) > 0, "{name}");
     }
 }

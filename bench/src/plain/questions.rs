@@ -115,7 +115,7 @@ pub fn lookup(file: &[u8], states: [u32; 4]) -> u64 {
 pub fn verdict(file: &[u8]) -> u64 {
     let judge = |instrument: Instrument| {
         let marks = all_marks(&instrument);
-        match by_marks(&instrument, &marks)? {
+        match by_marks(&instrument, &marks) {
             Some(verdict) => Ok(verdict),
             None => by_merged(&instrument, &marks, &all_classes(&instrument, &marks)),
         }
@@ -131,7 +131,7 @@ pub fn verdict(file: &[u8]) -> u64 {
 pub fn listing(file: &[u8], out: &mut [u8]) -> u64 {
     let write = |instrument: Instrument| {
         let marks = all_marks(&instrument);
-        let told = by_marks(&instrument, &marks)?;
+        let told = by_marks(&instrument, &marks);
         let names = all_classes(&instrument, &marks);
         let verdict = match told {
             Some(verdict) => verdict,

@@ -16,5 +16,4 @@ pub enum Refusal {
     FullSize,
     MergedSize,
     Short,
-    Clash,
 }

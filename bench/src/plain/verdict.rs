@@ -14,23 +14,21 @@ pub enum Verdict {
 }
 
 /// What the marks at the root say of all starts: nothing, or the verdict.
-pub fn by_marks(instrument: &Instrument, marks: &[Vec<Mark>]) -> Result<Option<Verdict>, Refusal> {
+pub fn by_marks(instrument: &Instrument, marks: &[Vec<Mark>]) -> Option<Verdict> {
     let root = instrument.nodes.len() - 1;
-    let (mut clash, mut failing, mut passing) = (false, false, true);
+    let (mut failing, mut passing) = (false, true);
     for start in &instrument.starts {
         let marked = |set: fn(Mark) -> StateSet| {
             marks.iter().zip(start).any(|(marks, state)| set(marks[root]) >> state & 1 == 1)
         };
         let (pass, fail) = (marked(|mark| mark.pass), marked(|mark| mark.fail));
-        clash |= pass & fail;
         failing |= fail;
         passing &= pass;
     }
-    match (clash, failing, passing) {
-        (true, _, _) => Err(Refusal::Clash),
-        (_, true, _) => Ok(Some(Verdict::Marks(false))),
-        (_, _, true) => Ok(Some(Verdict::Marks(true))),
-        _ => Ok(None),
+    match (failing, passing) {
+        (true, _) => Some(Verdict::Marks(false)),
+        (_, true) => Some(Verdict::Marks(true)),
+        _ => None,
     }
 }
 

@@ -17,10 +17,9 @@ pub enum Refusal {
     FullTooLarge = 11,
     MergedTooLarge = 12,
     BufferTooShort = 13,
-    StartMarkedBothWays = 14,
 }
 
-const ALL: [Refusal; 14] = [
+const ALL: [Refusal; 13] = [
     Refusal::FileEnds,
     Refusal::NumberForm,
     Refusal::OutsideRange,
@@ -34,11 +33,10 @@ const ALL: [Refusal; 14] = [
     Refusal::FullTooLarge,
     Refusal::MergedTooLarge,
     Refusal::BufferTooShort,
-    Refusal::StartMarkedBothWays,
 ];
 
 impl Refusal {
-    /// Its number, 1 to 14.
+    /// Its number, 1 to 13; 14 is not used any more.
     pub fn number(self) -> u32 {
         self as u32
     }
@@ -59,9 +57,6 @@ impl Refusal {
             Refusal::FullTooLarge => "full combination over 4,096 states",
             Refusal::MergedTooLarge => "merged combination over 4,096 states",
             Refusal::BufferTooShort => "lent result shorter than its entries",
-            Refusal::StartMarkedBothWays => {
-                "a start marked PASS by one component and FAIL by another"
-            }
         }
     }
 }
@@ -76,9 +71,10 @@ impl std::error::Error for Refusal {}
 
 /// The answer in the lower 32 bits, or the refusal whose number is in the upper 32.
 pub(crate) fn answer(result: u64) -> Result<u32, Refusal> {
-    let number = (result >> 32) as usize;
+    let number = (result >> 32) as u32;
+    let named = || ALL.into_iter().find(|refusal| refusal.number() == number);
     match number {
         0 => Ok(result as u32),
-        _ => Err(ALL[number - 1]),
+        _ => Err(named().expect("a number of the table")),
     }
 }

@@ -71,8 +71,8 @@ fn check_beside(
     Ok(number)
 }
 
-/// 14 is never met: no combined state is PASS of a node by one component and
-/// FAIL of it by another, nor by the same one. Every pair of states of two
+/// No combined state is PASS of a node by one component and FAIL of it by
+/// another, nor by the same one (document 02, 6/14). Every pair of states of two
 /// components is in some combined state.
 fn check_never_both_ways(checked: &Checked, counts: &mut Counts) -> Result<(), Violation> {
     let components = checked.queries.bench.marks.len();

@@ -81,7 +81,7 @@ fn count_sizes(merged: usize, full: usize, counts: &mut Counts) {
     }
 }
 
-/// The verdict is the full truth over the starts; 14 is never met.
+/// The verdict is the full truth over the starts; 12 is its only refusal.
 pub fn check_verdict(checked: &Checked, counts: &mut Counts) -> Result<(), Violation> {
     let too_large = checked.queries.bench.merged_words.is_err();
     let verdict = match verdict(&checked.queries.bench) {
