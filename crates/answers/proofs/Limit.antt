@@ -1,4 +1,4 @@
--- The first 16,385 bytes settle every longer input for each question (document 01, The instrument file and Verdict and listing).
+-- The first bytes, so many as the listing program reads (`listingBytes`), settle every longer input for each question (document 01, The instrument file and Verdict and listing).
 use mathlib.Core.Path.{_∙_, _≡_, ap}
 use mathlib.Core.List.{List}
 use lib.ListN.{drop, take}

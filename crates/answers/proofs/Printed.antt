@@ -1,4 +1,4 @@
--- What is printed: the first 16,385 bytes of a file settle every text.
+-- What is printed: the first bytes of a file, so many as are read (`listingBytes`), settle every text.
 use mathlib.Core.Path.{_≡_, refl, ap, ap₂}
 use mathlib.Core.List.{List, [], _∷_}
 use lib.ListN.{length, take}

@@ -13,7 +13,7 @@ use Rattle.answers.specs.Outcomes.{denied, fullOutcome, markOutcome, cla
 use Rattle.answers.specs.Listing.{listingOutcome}
 use Rattle.answers.specs.Questions.{Question, full, marks, classes, merged, listing, verdict, stretch, lookup, unknown}
 
--- the question about this file is refused with r, if it lends a buffer: for some room
+-- the question about this file is refused with r; where it lends a buffer, for some room
 abbrev pub RefusedWith : Question → List ℕ → ℕ → Type 0
 RefusedWith full file r = (room : ℕ) × (fullOutcome file room ≡ refused r)
 RefusedWith marks file r = (room : ℕ) × (markOutcome file room ≡ refused r)
@@ -25,7 +25,7 @@ RefusedWith (stretch c) file r = located file c ≡ fault r
 RefusedWith (lookup s0 s1 s2 s3) file r = lookupReply file (s0 ∷ s1 ∷ s2 ∷ s3 ∷ []) ≡ denied r
 RefusedWith unknown file r = ⊥
 
--- the numbers of a question beside those of the file's faults; an asked component or state has one of these, 3 or 9
+-- the numbers of a question beside 1 to 10, which are those of the file's faults, of an asked component (3) and of an asked state (9)
 abbrev pub ownNumbers : Question → List ℕ
 ownNumbers full = 11 ∷ 13 ∷ []
 ownNumbers marks = 13 ∷ []
@@ -37,6 +37,6 @@ ownNumbers (stretch c) = []
 ownNumbers (lookup s0 s1 s2 s3) = 12 ∷ []
 ownNumbers unknown = []
 
--- the sheet: a number of a file's fault, 1 to 10, or one of the question's own
+-- the question's sheet: 1 to 10, and its own numbers
 abbrev pub OnSheet : Question → ℕ → Type 0
 OnSheet q r = Within 1 10 r ⊎ Any (λ m. r ≡ m) (ownNumbers q)

@@ -16,7 +16,7 @@ pub mod Reads
 pub mod Accepted
 pub mod Limit
 pub mod Faults
--- How long a good file is: as its numbers are, at most 10,771 bytes, and one has that many.
+-- How long a good file is: as its numbers are, at most `longestFile` bytes, and one has that many.
 pub mod Sizes
 pub mod Longest
 pub mod Written

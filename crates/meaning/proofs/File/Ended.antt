@@ -1,4 +1,4 @@
--- A component's stretch lies inside the file and before its byte 2 ^ 16, since no good file is longer than 10,771 bytes: a place in it, and how
+-- A component's stretch lies inside the file and before its byte 2 ^ 16, since no good file is longer than `longestFile` bytes: a place in it, and how
 -- many bytes lie between two of them, fit 16 bits. A file that is refused may be longer.
 use mathlib.Core.Path.{_≡_, refl}
 use mathlib.Core.List.{List}

@@ -1,4 +1,4 @@
--- The bytes that the listing program reads, 16,385 at most, settle every longer input too (document 01, The instrument file): all numbers of
+-- The bytes that the listing program reads, `listingBytes` at most, settle every longer input too (document 01, The instrument file): all numbers of
 -- a file together have fewer bytes than that, so reading ends, or meets its first fault, before a byte that was left out.
 use mathlib.Core.Path.{_∙_, _≡_, ap, refl}
 use mathlib.Core.Bool.{Bool, false, true}
