@@ -5,7 +5,7 @@ use lib.ListN.{length, take, drop, length-append}
 use lib.Seq.{take-append-seam}
 use native.Mathlib.Omega.{arith}
 use Prim.Native.Nat.{ℕ, _-_, _≤_}
-use Rattle.meaning.specs.Reference.Answers.{Outcome, refused, entries, lentAfter}
+use Rattle.answers.specs.Buffers.{Outcome, refused, entries, lentAfter}
 use Rattle.cursor.specs.Answers.{number}
 use Rattle.cursor.specs.declared.Refusal.{Refusal}
 use Rattle.answers.specs.Listing.{refusalLine}

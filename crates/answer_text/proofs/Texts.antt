@@ -12,7 +12,8 @@ use Rattle.meaning.specs.File.Number.{choose}
 use Rattle.meaning.specs.File.Grammar.{Contents, instrumentOf, limits, readFile}
 use Rattle.meaning.specs.File.Promise.{Promised}
 use Rattle.meaning.specs.File.Stretches.{Stretch, located, startOf, endOf}
-use Rattle.meaning.specs.Reference.Answers.{refused, fitting, listBelow, fullCount, fullWord, fullWords, mergedSize, mergedWord, mergedWords}
+use Rattle.meaning.specs.Reference.Answers.{listBelow, fullCount, fullWord, fullWords, mergedSize, mergedWord, mergedWords}
+use Rattle.answers.specs.Buffers.{refused, fitting}
 use Rattle.meaning.proofs.Basic.Entries.{list-length}
 use Rattle.meaning.proofs.File.Reads.{file-promised}
 use Rattle.meaning.proofs.File.Limit.{located-end}

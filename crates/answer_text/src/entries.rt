@@ -77,7 +77,7 @@ fn instrument_classes(t: Outline, nexts: &[StateSet], out: &mut [u8; TEXT_BYTES]
     requires { ⌜ ((k : Contents) × Describes (whole t (now nexts)) k) ⌝ }
     ensures { λ r. ⌜ ((k : Contents) → Describes (whole t (now (nexts .entry))) k → Made (classLines (instrumentOf k)) r (now (out .entry)) (now (out .exit))) ⌝ }
 {
-    let names = partitions::all_classes(t, nexts);
+    let names = root_classes::all_root_classes(t, nexts);
     put(report::class_text(t, names), out)
 }
 

@@ -9,9 +9,11 @@ use native.Mathlib.Omega.{arith}
 use Prim.Native.Nat.{_<_, suc, zero, ℕ}
 use Rattle.words.specs.Sets.{built, digit}
 use Rattle.meaning.specs.Cases.{chainEX, pair}
-use Rattle.meaning.specs.Combination.{Truth, high}
+use Rattle.meaning.specs.Combination.{Truth}
+use Rattle.meaning.specs.Seen.{value}
 use Rattle.meaning.specs.Instrument.{Instrument, rootFormula, table}
-use Rattle.meaning.specs.Reference.Answers.{classNames, entries, fitting, fullCount, fullWords, lentAfter, markWords, mergedSize, mergedWords}
+use Rattle.meaning.specs.Reference.Answers.{classNames, fullCount, fullWords, markWords, mergedSize, mergedWords}
+use Rattle.answers.specs.Buffers.{entries, fitting, lentAfter}
 use Rattle.meaning.specs.Verdict.{holds, judged, merged}
 use Rattle.meaning.proofs.File.Examples.{accepted-met, chain-accepted, chain-read, chainContents, chainI, pair-read, pairContents, pairI}
 use Rattle.meaning.proofs.Inhabited.{bench, bench-partners, bench-state}
@@ -89,12 +91,12 @@ pub verdict-holds : Holds (VerdictMeans (record { verdict = holds; stage = merge
 verdict-holds = pair-holds (verdict-means pairI accepted-met (record { verdict = holds; stage = merged }) verdict-is)
 
 -- ---- marks beside a partner: EX p, by the words that are handed back
-pub beside-true : Truth 2 bench (high 2 bench) (rootFormula chainI) (bench-state 0 (lit< tt))
+pub beside-true : Truth 2 bench (value 2 bench) (rootFormula chainI) (bench-state 0 (lit< tt))
 unfolding digit built
 beside-true =
     marks-mean chainI chain-accepted [] .beside 0 1 (lit< tt) (lit< tt) 2 bench 1 (lit< tt) refl bench-partners (bench-state 0 (lit< tt)) .0 tt
 
-pub beside-false : Truth 2 bench (high 2 bench) (rootFormula chainI) (bench-state 1 (lit< tt)) → ⊥
+pub beside-false : Truth 2 bench (value 2 bench) (rootFormula chainI) (bench-state 1 (lit< tt)) → ⊥
 unfolding digit built
 beside-false =
     marks-mean chainI chain-accepted [] .beside 0 1 (lit< tt) (lit< tt) 2 bench 1 (lit< tt) refl bench-partners (bench-state 1 (lit< tt)) .1 tt

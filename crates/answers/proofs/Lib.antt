@@ -1,3 +1,4 @@
+pub mod Buffers
 pub mod Means
 pub mod Starts
 pub mod Parts

@@ -9,7 +9,8 @@ use Rattle.meaning.specs.File.Grammar.{Contents, readFile}
 use Rattle.meaning.specs.File.Parser.{Got}
 use Rattle.meaning.specs.File.Promise.{listingBytes}
 use Rattle.meaning.specs.File.Stretches.{endOf, located, startOf}
-use Rattle.meaning.specs.Reference.Answers.{fitting, fullCount, fullWords, markWords, classNames, mergedSize, mergedWords}
+use Rattle.meaning.specs.Reference.Answers.{fullCount, fullWords, markWords, classNames, mergedSize, mergedWords}
+use Rattle.answers.specs.Buffers.{fitting}
 use Rattle.meaning.proofs.File.Limit.{limit, located-end, located-limit}
 use Rattle.meaning.proofs.File.Numbers.{drop-take}
 use Rattle.answers.specs.Listing.{listed, listingOutcome}

@@ -9,22 +9,26 @@ use native.Mathlib.Omega.{arith}
 use Prim.Native.Nat.{ℕ, zero, suc, _+_, _*_, _≤_, _<_}
 use Rattle.words.specs.Sets.{has, built}
 use Rattle.words.proofs.Built.{has-built, has-built-lt}
+use Rattle.meaning.specs.Atoms.{Atom}
 use Rattle.meaning.specs.Table.{Table, Total}
 use Rattle.meaning.specs.Formula.{Formula}
 use Rattle.meaning.specs.Nodes.{formulaAt, Beneath}
 use Rattle.meaning.specs.Instrument.{Instrument, Accepted, components, table, rootNode, rootFormula, Partner}
-use Rattle.meaning.specs.Combination.{State, Truth, high, index}
-use Rattle.meaning.specs.View.{View, wholeWords}
+use Rattle.meaning.specs.Combination.{State, Truth, index}
+use Rattle.meaning.specs.View.{View, atoms}
+use Rattle.meaning.specs.Seen.{value, valueOf, viewOf}
 use Rattle.meaning.specs.Marks.{Pass, Fail}
 use Rattle.meaning.specs.Relation.{Rel}
 use Rattle.meaning.specs.Merged.{mergedIndex, mergedSizes, classNumbers}
 use Rattle.meaning.specs.Reference.Nodes.{beneathB}
 use Rattle.meaning.specs.Reference.Merged.{mergedB}
 use Rattle.meaning.specs.Reference.Answers.{mergedSize, mergedWord, mergedWords}
-use Rattle.meaning.specs.Reference.Answers.{listBelow, joinBelow, entries, lentAfter, fullWord, fullWords, fullCount, passWord, failWord, markWords, classesAt, classNames}
+use Rattle.meaning.specs.Reference.Answers.{listBelow, joinBelow, fullWord, fullWords, fullCount, passWord, failWord, markWords, classesAt, classNames}
+use Rattle.answers.specs.Buffers.{entries, lentAfter}
 use Rattle.meaning.specs.Reference.Marks.{passB, failB}
 use Rattle.meaning.specs.Reference.Truth.{truthB}
-use Rattle.meaning.proofs.Basic.Entries.{list-length, list-at, join-length, join-fits, join-at, lent-at}
+use Rattle.meaning.proofs.Basic.Entries.{list-length, list-at, join-length, join-fits, join-at}
+use Rattle.answers.proofs.Buffers.{lent-at}
 use Rattle.meaning.proofs.Basic.Decides.{Decides}
 use Rattle.meaning.proofs.Basic.Booleans.{and-in, and-l, and-r}
 use Rattle.meaning.proofs.File.Nodes.{beneath-in, beneath-out, beneath-le}
@@ -47,10 +51,10 @@ module _ (I : Instrument) (accepted : Accepted I) (old : List ℕ) where
   abbrev S : ℕ → Table
   S = table I
 
-  abbrev κ : ℕ → View ℕ
-  κ i = wholeWords (S i)
+  abbrev κ : ℕ → View Atom
+  κ = viewOf I
 
-  abbrev formula : ℕ → Formula ℕ
+  abbrev formula : ℕ → Formula Atom
   formula k = formulaAt (I .nodes) k
 
   abbrev nodeCount : ℕ
@@ -68,10 +72,10 @@ module _ (I : Instrument) (accepted : Accepted I) (old : List ℕ) where
           lent-at (fullWords I) old (at s) (omega (arith, list-length (fullCount I) (fullWord I))) ∙ list-at (fullCount I) (fullWord I) 0 (at s) l
 
       truth : (s : State n S) (k : ℕ)
-          → T (has (getD (lentAfter (entries (fullWords I)) old) (at s) 0) k) ↔ ((k < nodeCount) × Truth n S (high n S) (formula k) s)
+          → T (has (getD (lentAfter (entries (fullWords I)) old) (at s) 0) k) ↔ ((k < nodeCount) × Truth n S (valueOf I) (formula k) s)
       truth s k =
-          subst (λ w. T (has w k) ↔ ((k < nodeCount) × Truth n S (high n S) (formula k) s)) (sym (word s))
-          (built-iff nodeCount (λ k. truthB n S (I .signals) (high n S) (formula k) (at s)) (λ k. Truth n S (high n S) (formula k) s)
+          subst (λ w. T (has w k) ↔ ((k < nodeCount) × Truth n S (valueOf I) (formula k) s)) (sym (word s))
+          (built-iff nodeCount (λ k. truthB n S (I .signals) (valueOf I) (formula k) (at s)) (λ k. Truth n S (valueOf I) (formula k) s)
           (λ k l. full-01 I accepted k s) k)
 
   -- the two words of component i and node k, and their places
@@ -138,17 +142,17 @@ module _ (I : Instrument) (accepted : Accepted I) (old : List ℕ) where
       -- beside partners: the component's table stands at place j
       beside : (i k : ℕ) → i < n → k < nodeCount → (m : ℕ) (P : ℕ → Table) (j : ℕ) → j < m → P j ≡ S i
           → ((l : ℕ) → l < m → l ≢ j → Partner (S i) (P l)) → (s : State m P)
-          → (T (has (getD (lentAfter (entries (markWords I)) old) (2 * nodeCount * i + 2 * k) 0) (s .at j)) → Truth m P (high m P) (formula k) s)
+          → (T (has (getD (lentAfter (entries (markWords I)) old) (2 * nodeCount * i + 2 * k) 0) (s .at j)) → Truth m P (value m P) (formula k) s)
           × (T (has (getD (lentAfter (entries (markWords I)) old) (2 * nodeCount * i + (2 * k + 1)) 0) (s .at j))
-          → Truth m P (high m P) (formula k) s → ⊥)
+          → Truth m P (value m P) (formula k) s → ⊥)
       beside i k l h m P j q e partners s =
           let x = s .at j in
           let low : x < S i .states = subst (λ t. x < t .states) e (s .ok j q) in
           let b = computed-beside m P j q (subst Total (sym e) (accepted .well-formed .total i l))
           (λ a o z. subst (λ t. Partner t (P a)) (sym e) (partners a o z)) (P j .out) (formula k) s in (
-            λ t. b .0 (subst (λ t. T (passB t (wholeWords t) (formula k) x)) (sym e)
+            λ t. b .0 (subst (λ t. T (passB t (atoms (t .out) t) (formula k) x)) (sym e)
                 (subst T (has-built (S i .states) (passB (S i) (κ i) (formula k)) x low) (subst (λ w. T (has w x)) (pass-at i k l h) t))),
-            λ t. b .1 (subst (λ t. T (failB t (wholeWords t) (formula k) x)) (sym e)
+            λ t. b .1 (subst (λ t. T (failB t (atoms (t .out) t) (formula k) x)) (sym e)
                 (subst T (has-built (S i .states) (failB (S i) (κ i) (formula k)) x low)
                 (subst (λ w. T (has w x)) (mark-at i k 1 l h (omega arith)) t))),
           )
@@ -193,7 +197,7 @@ module _ (I : Instrument) (accepted : Accepted I) (old : List ℕ) where
       underB k = beneathB (I .nodes) (suc (rootNode I)) k (rootNode I)
 
       mergedBit : ℕ → ℕ → Bool
-      mergedBit k x = mergedB n S cls κ (high n S) (I .signals) (formula k) x
+      mergedBit k x = mergedB n S cls κ (valueOf I) (I .signals) (formula k) x
 
       bit : ℕ → ℕ → Bool
       bit x k = underB k && mergedBit k x
@@ -203,7 +207,7 @@ module _ (I : Instrument) (accepted : Accepted I) (old : List ℕ) where
 
       truth : (s : State n S) (k : ℕ)
           → T (has (getD (lentAfter (entries (mergedWords I)) old) (at s) 0) k)
-          ↔ (Beneath (I .nodes) k (rootNode I) × Truth n S (high n S) (formula k) s)
+          ↔ (Beneath (I .nodes) k (rootNode I) × Truth n S (valueOf I) (formula k) s)
       truth s k =
           let (c, m) = merged-state-01 I accepted s in
           let e : at s ≡ index n (mergedSizes n S cls) (c .at) = index-same n (mergedSizes n S cls) (classNumbers n S cls (s .at)) (c .at) (λ i l. sym (m i l)) in
@@ -211,7 +215,7 @@ module _ (I : Instrument) (accepted : Accepted I) (old : List ℕ) where
           let w : getD (lentAfter (entries (mergedWords I)) old) (at s) 0 ≡ mergedWord I (at s) =
           lent-at (mergedWords I) old (at s) (omega (arith, list-length (mergedSize I) (mergedWord I))) ∙ list-at (mergedSize I) (mergedWord I) 0 (at s) l
           in
-          subst (λ w. T (has w k) ↔ (Beneath (I .nodes) k (rootNode I) × Truth n S (high n S) (formula k) s)) (sym w) (
+          subst (λ w. T (has w k) ↔ (Beneath (I .nodes) k (rootNode I) × Truth n S (valueOf I) (formula k) s)) (sym w) (
             λ h.
                 let q = has-built-lt nodeCount (bit (at s)) k h in
                 let b = subst T (has-built nodeCount (bit (at s)) k q) h in

@@ -14,7 +14,8 @@ use Rattle.meaning.specs.File.Grammar.{Contents, instrumentOf, readFile}
 use Rattle.meaning.specs.File.Number.{choose}
 use Rattle.meaning.specs.File.Parser.{Got, found, fault}
 use Rattle.meaning.specs.File.Promise.{Within}
-use Rattle.meaning.specs.Reference.Answers.{Outcome, refused, entries, fitting, fullCount, fullWords, markWords, classNames, mergedSize, mergedWords}
+use Rattle.meaning.specs.Reference.Answers.{fullCount, fullWords, markWords, classNames, mergedSize, mergedWords}
+use Rattle.answers.specs.Buffers.{Outcome, refused, entries, fitting}
 use Rattle.meaning.specs.Reference.Tests.{allOf}
 use Rattle.meaning.proofs.Basic.Booleans.{and-l, and-r}
 use Rattle.meaning.proofs.File.Faults.{file-faults, located-faults}

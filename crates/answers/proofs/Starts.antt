@@ -7,12 +7,14 @@ use lib.Dec.{T, leb}
 use lib.ListN.{getD}
 use native.Mathlib.Nat.{mod-lt, mod-eq-of-lt}
 use Prim.Native.Nat.{ℕ, _%_, _≤_, _<_}
+use Rattle.meaning.specs.Atoms.{Atom}
 use Rattle.meaning.specs.Tests.{All}
 use Rattle.meaning.specs.Table.{Table}
 use Rattle.meaning.specs.Formula.{Formula}
 use Rattle.meaning.specs.Instrument.{Instrument, Accepted, components, table, rootFormula}
-use Rattle.meaning.specs.Combination.{State, Truth, high}
-use Rattle.meaning.specs.View.{View, wholeWords}
+use Rattle.meaning.specs.Combination.{State, Truth}
+use Rattle.meaning.specs.View.{View}
+use Rattle.meaning.specs.Seen.{valueOf, viewOf}
 use Rattle.meaning.specs.Classes.{classNumber}
 use Rattle.meaning.specs.Merged.{mergedSizes, classNumbers}
 use Rattle.meaning.specs.Verdict.{Right, judged}
@@ -26,7 +28,7 @@ use Rattle.meaning.proofs.Basic.Lists.{all-map}
 use Rattle.meaning.proofs.Meaning.Index.{index-same}
 use Rattle.meaning.proofs.Claims.{lookup-01}
 use Rattle.meaning.proofs.Demands.{verdict-right}
-use Rattle.meaning.proofs.Marks.Signals.{whole-fit}
+use Rattle.meaning.proofs.Marks.Atoms.{view-fit}
 use Rattle.answers.specs.Outcomes.{lookedUp, verdictOf, Judgement}
 use Rattle.answers.specs.Means.{LookupMeans, VerdictMeans}
 
@@ -56,10 +58,10 @@ module _ (I : Instrument) where
   abbrev S : ℕ → Table
   S = table I
 
-  abbrev κ : ℕ → View ℕ
-  κ i = wholeWords (S i)
+  abbrev κ : ℕ → View Atom
+  κ = viewOf I
 
-  abbrev ρ : Formula ℕ
+  abbrev ρ : Formula Atom
   ρ = rootFormula I
 
   abbrev cls : ℕ → ℕ → ℕ
@@ -73,9 +75,9 @@ module _ (I : Instrument) where
     fail-same : hasFailB n S κ ρ s ≡ hasFailB n S κ ρ u
     fail-same = any-same n (λ i. failB (S i) (κ i) ρ (s i)) (λ i. failB (S i) (κ i) ρ (u i)) (λ i l. ap (failB (S i) (κ i) ρ) (e i l))
 
-    pub lookup-same : lookupB n S cls κ (high n S) (I .signals) ρ s ≡ lookupB n S cls κ (high n S) (I .signals) ρ u
+    pub lookup-same : lookupB n S cls κ (valueOf I) (I .signals) ρ s ≡ lookupB n S cls κ (valueOf I) (I .signals) ρ u
     lookup-same =
-        ap (mergedB n S cls κ (high n S) (I .signals) ρ)
+        ap (mergedB n S cls κ (valueOf I) (I .signals) ρ)
         (index-same n (mergedSizes n S cls) (classNumbers n S cls s) (classNumbers n S cls u) (λ i l. ap (classNumber (cls i)) (e i l)))
 
   module _ (accepted : Accepted I) where
@@ -91,16 +93,16 @@ module _ (I : Instrument) where
         record {
           state = stateOf asked;
           is = own asked h;
-          truth = subst (λ b. T b ↔ Truth n S (high n S) ρ (stateOf asked)) (lookup-same (stateOf asked .at) (λ i. getD asked i 0) (own asked h))
+          truth = subst (λ b. T b ↔ Truth n S (valueOf I) ρ (stateOf asked)) (lookup-same (stateOf asked .at) (λ i. getD asked i 0) (own asked h))
               (lookup-01 I accepted (stateOf asked));
         }
 
     -- the verdict on the starts as they are written is that on their combined states
-    written : verdictB n S κ ρ 4096 (I .signals) (high n S) (λ l. stateOf l .at) (I .starts) ≡ verdictOf I
+    written : verdictB n S κ ρ 4096 (I .signals) (valueOf I) (λ l. stateOf l .at) (I .starts) ≡ verdictOf I
     written =
         answer-same (λ l. hasPassB n S κ ρ (stateOf l .at)) (λ l. hasFailB n S κ ρ (stateOf l .at))
-        (λ l. lookupB n S cls κ (high n S) (I .signals) ρ (stateOf l .at)) (λ l. hasPassB n S κ ρ (λ i. getD l i 0))
-        (λ l. hasFailB n S κ ρ (λ i. getD l i 0)) (λ l. lookupB n S cls κ (high n S) (I .signals) ρ (λ i. getD l i 0)) (leb (mergedSize I) 4096)
+        (λ l. lookupB n S cls κ (valueOf I) (I .signals) ρ (stateOf l .at)) (λ l. hasPassB n S κ ρ (λ i. getD l i 0))
+        (λ l. hasFailB n S κ ρ (λ i. getD l i 0)) (λ l. lookupB n S cls κ (valueOf I) (I .signals) ρ (λ i. getD l i 0)) (leb (mergedSize I) 4096)
         (I .starts)
         (all-map (λ l h.
         let e = own l (h .1) in
@@ -114,6 +116,6 @@ module _ (I : Instrument) where
           is = all-map (λ l h. own l (h .1)) (I .starts) (accepted .starts);
           right =
               let good = accepted .well-formed in
-              subst (Right n S κ ρ (Truth n S (high n S) ρ) stateOf (I .starts) (mergedSize I ≤ 4096)) (written ∙ e)
-              (verdict-right n S (I .signals) good (high n S) κ (whole-fit n S (I .signals) good) ρ 4096 stateOf (I .starts));
+              subst (Right n S κ ρ (Truth n S (valueOf I) ρ) stateOf (I .starts) (mergedSize I ≤ 4096)) (written ∙ e)
+              (verdict-right n S (I .signals) good (valueOf I) κ (view-fit I accepted) ρ 4096 stateOf (I .starts));
         }

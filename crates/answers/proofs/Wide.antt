@@ -11,7 +11,8 @@ use Rattle.words.specs.Sets.{digit, built, insert}
 use Rattle.meaning.specs.File.Number.{groups}
 use Rattle.meaning.specs.File.Parser.{Got, fault, found, listOf}
 use Rattle.meaning.specs.File.Grammar.{Contents, instrumentOf, readFile, withAll, between, lessThan, signal, component, named, node, whole}
-use Rattle.meaning.specs.Reference.Answers.{entries, fitting, fullCount, fullWord, fullWords, refused}
+use Rattle.meaning.specs.Reference.Answers.{fullCount, fullWord, fullWords}
+use Rattle.answers.specs.Buffers.{entries, fitting, refused}
 use Rattle.meaning.specs.WideCases.{every, loose}
 use Rattle.meaning.proofs.Basic.Booleans.{and-l, and-r, is-true}
 use Rattle.meaning.proofs.Basic.Entries.{list-length}

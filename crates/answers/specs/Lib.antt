@@ -1,3 +1,4 @@
+pub mod Buffers
 pub mod Outcomes
 pub mod Listing
 pub mod Numbers

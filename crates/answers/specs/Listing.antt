@@ -7,7 +7,8 @@ use Prim.Native.Nat.{ℕ, zero, suc, _+_, _/_, _%_}
 use Rattle.meaning.specs.Instrument.{Instrument, components, table}
 use Rattle.meaning.specs.Verdict.{Verdict, Stage, holds, fails, marks, merged}
 use Rattle.meaning.specs.File.Grammar.{readFile}
-use Rattle.meaning.specs.Reference.Answers.{Outcome, refused, fitting, joinBelow, fullCount, classesAt, mergedSize}
+use Rattle.meaning.specs.Reference.Answers.{joinBelow, fullCount, classesAt, mergedSize}
+use Rattle.answers.specs.Buffers.{Outcome, refused, fitting}
 use Rattle.answers.specs.Outcomes.{Reply, given, denied, Judgement, judgement, verdictOf, after}
 
 -- the decimal digits of a number, of at most so many places: "0" to "9" are bytes 48 to 57

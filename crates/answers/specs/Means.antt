@@ -7,13 +7,15 @@ use lib.Dec.{T}
 use lib.ListN.{length, getD, take}
 use Prim.Native.Nat.{ℕ, zero, suc, _+_, _*_, _≤_, _<_}
 use Rattle.words.specs.Sets.{has}
+use Rattle.meaning.specs.Atoms.{Atom}
 use Rattle.meaning.specs.Tests.{All}
 use Rattle.meaning.specs.Table.{Table}
 use Rattle.meaning.specs.Formula.{Formula}
 use Rattle.meaning.specs.Nodes.{formulaAt, Beneath}
 use Rattle.meaning.specs.Instrument.{Instrument, components, table, rootNode, rootFormula, Partner}
-use Rattle.meaning.specs.Combination.{State, Truth, high, index}
-use Rattle.meaning.specs.View.{View, wholeWords}
+use Rattle.meaning.specs.Combination.{State, Truth, index}
+use Rattle.meaning.specs.View.{View}
+use Rattle.meaning.specs.Seen.{value, valueOf, viewOf}
 use Rattle.meaning.specs.Marks.{Pass, Fail}
 use Rattle.meaning.specs.Relation.{Rel}
 use Rattle.meaning.specs.Classes.{ClassNames}
@@ -44,19 +46,19 @@ module _ (out : List ℕ) (I : Instrument) where
   abbrev S : ℕ → Table
   S = table I
 
-  abbrev κ : ℕ → View ℕ
-  κ i = wholeWords (S i)
+  abbrev κ : ℕ → View Atom
+  κ = viewOf I
 
   abbrev nodeCount : ℕ
   nodeCount = length (I .nodes)
 
-  abbrev formula : ℕ → Formula ℕ
+  abbrev formula : ℕ → Formula Atom
   formula k = formulaAt (I .nodes) k
 
   -- DEMAND 2. Bit k of the word at a combined state's index is the truth of node k there; bits past the nodes are 0.
   pub record FullMeans : Type 0 where
     pub truth : (s : State n S) (k : ℕ)
-        → T (has (getD out (index n (λ i. S i .states) (s .at)) 0) k) ↔ ((k < nodeCount) × Truth n S (high n S) (formula k) s)
+        → T (has (getD out (index n (λ i. S i .states) (s .at)) 0) k) ↔ ((k < nodeCount) × Truth n S (valueOf I) (formula k) s)
 
   -- the words of component i and node k, PASS then FAIL
   abbrev passAt : ℕ → ℕ → ℕ
@@ -72,8 +74,8 @@ module _ (out : List ℕ) (I : Instrument) where
     pub fail : (i k : ℕ) → i < n → k < nodeCount → (x : ℕ) → T (has (failAt i k) x) ↔ ((x < S i .states) × Fail (S i) (κ i) (formula k) x)
     pub beside : (i k : ℕ) → i < n → k < nodeCount → (m : ℕ) (P : ℕ → Table) (j : ℕ) → j < m → P j ≡ S i
         → ((l : ℕ) → l < m → l ≢ j → Partner (S i) (P l)) → (s : State m P)
-        → (T (has (passAt i k) (s .at j)) → Truth m P (high m P) (formula k) s)
-        × (T (has (failAt i k) (s .at j)) → Truth m P (high m P) (formula k) s → ⊥)
+        → (T (has (passAt i k) (s .at j)) → Truth m P (value m P) (formula k) s)
+        × (T (has (failAt i k) (s .at j)) → Truth m P (value m P) (formula k) s → ⊥)
     -- document 02, 6/14: no combined state is marked PASS for a node by one component and FAIL for the same node by another
     pub never-both : (i j k : ℕ) → i < n → j < n → k < nodeCount → (s : State n S) → T (has (passAt i k) (s .at i)) → T (has (failAt j k) (s .at j)) → ⊥
 
@@ -85,21 +87,21 @@ module _ (out : List ℕ) (I : Instrument) where
   -- tables, if node k is the root or stands under it, and 0 if not; and every word is the word of some combined state.
   pub record MergedMeans : Type 0 where
     pub truth : (s : State n S) (k : ℕ)
-        → T (has (getD out (mergedIndex n S (classesAt I) (s .at)) 0) k) ↔ (Beneath (I .nodes) k (rootNode I) × Truth n S (high n S) (formula k) s)
+        → T (has (getD out (mergedIndex n S (classesAt I) (s .at)) 0) k) ↔ (Beneath (I .nodes) k (rootNode I) × Truth n S (valueOf I) (formula k) s)
     pub onto : (x : ℕ) → x < mergedSize I → (s : State n S) × (mergedIndex n S (classesAt I) (s .at) ≡ x)
 
 -- DEMAND 3, lookup. The asked numbers are a combined state, and the answer is the truth of the root in it on the delivered tables.
 pub record LookupMeans (asked : List ℕ) (answer : Bool) (I : Instrument) : Type 0 where
   pub state : State (components I) (table I)
   pub is : (i : ℕ) → i < components I → state .at i ≡ getD asked i 0
-  pub truth : T answer ↔ Truth (components I) (table I) (high (components I) (table I)) (rootFormula I) state
+  pub truth : T answer ↔ Truth (components I) (table I) (valueOf I) (rootFormula I) state
 
 -- The verdict is the right one on the starts as combined states, with its stage.
 pub record VerdictMeans (j : Judgement) (I : Instrument) : Type 0 where
   pub start : List ℕ → State (components I) (table I)
   pub is : All (λ s. (i : ℕ) → i < components I → start s .at i ≡ getD s i 0) (I .starts)
   pub right : let n = components I in let S = table I in
-      Right n S (λ i. wholeWords (S i)) (rootFormula I) (Truth n S (high n S) (rootFormula I)) start (I .starts) (mergedSize I ≤ 4096)
+      Right n S (viewOf I) (rootFormula I) (Truth n S (valueOf I) (rootFormula I)) start (I .starts) (mergedSize I ≤ 4096)
       (judged (j .verdict) (j .stage))
 
 -- the file is accepted and has component c

@@ -8,7 +8,7 @@ use Rattle.meaning.specs.Tests.{Any}
 use Rattle.meaning.specs.File.Parser.{fault}
 use Rattle.meaning.specs.File.Promise.{Within}
 use Rattle.meaning.specs.File.Stretches.{located}
-use Rattle.meaning.specs.Reference.Answers.{refused}
+use Rattle.answers.specs.Buffers.{refused}
 use Rattle.answers.specs.Outcomes.{denied, fullOutcome, markOutcome, classOutcome, mergedOutcome, lookupReply, verdictReply}
 use Rattle.answers.specs.Listing.{listingOutcome}
 use Rattle.answers.specs.Questions.{Question, full, marks, classes, merged, listing, verdict, stretch, lookup, unknown}

@@ -6,8 +6,7 @@ use lib.Dec.{leb, ltb, eqb}
 use lib.ListN.{length, getD, take, drop}
 use Prim.Native.Nat.{ℕ, _-_}
 use Rattle.meaning.specs.Instrument.{Instrument, components, table, rootFormula}
-use Rattle.meaning.specs.Combination.{high}
-use Rattle.meaning.specs.View.{wholeWords}
+use Rattle.meaning.specs.Seen.{valueOf, viewOf}
 use Rattle.meaning.specs.Verdict.{Answer, Verdict, Stage, judged, oversized}
 use Rattle.meaning.specs.File.Parser.{Got, found, fault}
 use Rattle.meaning.specs.File.Number.{choose}
@@ -16,7 +15,8 @@ use Rattle.meaning.specs.File.Stretches.{Stretch, startOf, endOf, located}
 use Rattle.meaning.specs.Reference.Tests.{allBelow}
 use Rattle.meaning.specs.Reference.Merged.{lookupB}
 use Rattle.meaning.specs.Reference.Verdict.{verdictB}
-use Rattle.meaning.specs.Reference.Answers.{Outcome, refused, entries, fitting, fullCount, fullWords, markWords, classNames, classesAt, mergedSize, mergedWords}
+use Rattle.meaning.specs.Reference.Answers.{fullCount, fullWords, markWords, classNames, classesAt, mergedSize, mergedWords}
+use Rattle.answers.specs.Buffers.{Outcome, refused, entries, fitting}
 
 -- the largest combination that is built
 abbrev pub mostCombined : ℕ
@@ -65,7 +65,7 @@ asksState I s = allBelow 4 (λ i. choose (ltb i (components I)) (ltb (getD s i 0
 -- the lookup: 9 for a state that is none, then 12, then the root's bit at the merged state
 abbrev pub lookedUp : Instrument → List ℕ → Bool
 lookedUp I s =
-    lookupB (components I) (table I) (classesAt I) (λ i. wholeWords (table I i)) (high (components I) (table I)) (I .signals) (rootFormula I)
+    lookupB (components I) (table I) (classesAt I) (viewOf I) (valueOf I) (I .signals) (rootFormula I)
     (λ i. getD s i 0)
 
 abbrev pub lookupOf : Instrument → List ℕ → Reply Bool
@@ -85,7 +85,7 @@ judgement oversized = denied 12
 
 abbrev pub verdictOf : Instrument → Answer
 verdictOf I =
-    verdictB (components I) (table I) (λ i. wholeWords (table I i)) (rootFormula I) mostCombined (I .signals) (high (components I) (table I))
+    verdictB (components I) (table I) (viewOf I) (rootFormula I) mostCombined (I .signals) (valueOf I)
     (λ start i. getD start i 0) (I .starts)
 
 unfoldable pub verdictReply : List ℕ → Reply Judgement

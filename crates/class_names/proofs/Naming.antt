@@ -1,5 +1,5 @@
 -- Names of classes, and the count of them.
-use mathlib.Core.Path.{_≡_, refl, ap, _∙_}
+use mathlib.Core.Path.{_≡_}
 use mathlib.Core.List.{List}
 use lib.ListN.{getD}
 use native.Mathlib.Nat.{lt-of-lt-of-le}
@@ -17,7 +17,6 @@ use Rattle.meaning.specs.File.Grammar.{mostStates}
 use Rattle.state_words.specs.Width.{stateBits}
 use Rattle.classes.specs.Rows.{rel}
 use Rattle.class_names.specs.Names.{Inhabited}
-use Rattle.class_names.specs.Counting.{Counting}
 
 -- the lowest member of a row
 row-lowest : (n : ℕ) (r : List ℕ) (x : ℕ) → n ≤ mostStates → Inhabited n r → x < n → Lowest stateBits (getD r x 0) (sets.lowest stateBits (getD r x 0))
@@ -36,33 +35,10 @@ lowest-row n r x m h l =
     let b = lowest-le n (rel r x) (sets.lowest stateBits (getD r x 0)) (omega arith) (z .member) in
     omega arith
 
--- ---- the count
-pub counting-none : (n : ℕ) (names : List ℕ) → Counting n names 0 0
-counting-none n names = record { bound = omega arith; few = omega arith; counted = refl }
+-- one state more is counted where it is the name of its class
+module _ (cls : ℕ → ℕ) (x : ℕ) where
+  pub count-in : cls x ≡ x → classesBelow cls x + 1 ≡ classesBelow cls (x + 1)
+  count-in e = rw (add-one x, eq-eqb (cls x) x e) (omega arith)
 
-pub counting-in : {n : ℕ} {names : List ℕ} {count x : ℕ} → Counting n names count x → x < n → getD names x 0 ≡ x
-    → Counting n names (count + 1) (x + 1)
-counting-in {names = names} {count = count} {x = x} h l e =
-    record {
-      bound = omega arith;
-      few = let f = h .few in omega arith;
-      counted =
-          let t = eq-eqb (getD names x 0) x e in
-          rw (add-one x, t) (let f = h .counted in omega arith);
-    }
-
-pub counting-out : {n : ℕ} {names : List ℕ} {count x : ℕ} → Counting n names count x → x < n → (getD names x 0 ≡ x → ⊥)
-    → Counting n names count (x + 1)
-counting-out {names = names} {count = count} {x = x} h l e =
-    record {
-      bound = omega arith;
-      few = let f = h .few in omega arith;
-      counted =
-          let t = ne-eqb (getD names x 0) x e in
-          rw (add-one x, t) (let f = h .counted in omega arith);
-    }
-
-pub counting-end : {n : ℕ} {names : List ℕ} {count x : ℕ} → Counting n names count x → n ≤ x → count ≡ classesBelow (λ x. getD names x 0) n
-counting-end {n} {names} {x = x} h l =
-    let e : x ≡ n = let b = h .bound in omega arith in
-    h .counted ∙ ap (λ z. classesBelow (λ x. getD names x 0) z) e
+  pub count-out : (cls x ≡ x → ⊥) → classesBelow cls x ≡ classesBelow cls (x + 1)
+  count-out z = rw (add-one x, ne-eqb (cls x) x z) (omega arith)

@@ -2,7 +2,6 @@
 pub mod Component
 pub mod Padded
 pub mod Rows
-pub mod Loops
 pub mod Row
 pub mod Members
 pub mod Changed

@@ -1,4 +1,4 @@
--- What the loops keep: a word built state by state, a list with a place for each state filled state by state, and the like.
+-- What the loops over the members of a set keep, and the one over the assignments.
 use mathlib.Core.Path.{_≡_}
 use mathlib.Core.Bool.{Bool, _&&_}
 use mathlib.Core.List.{List}
@@ -7,19 +7,8 @@ use Prim.Native.Nat.{ℕ, _^_, _≤_}
 use Rattle.words.specs.Sets.{has, built}
 use Rattle.words.specs.Passing.{Passing}
 use Rattle.meaning.specs.Reference.Tests.{allBelow}
-use Rattle.meaning.specs.File.Grammar.{mostStates}
-use Rattle.classes.specs.Rows.{padded, rel}
+use Rattle.classes.specs.Rows.{rel}
 use Rattle.classes.specs.Matching.{matchedOn}
-
--- w is the set of the numbers below x that pass f, on the way to n
-pub record Building (n : ℕ) (f : ℕ → Bool) (w x : ℕ) : Type 0 where
-  pub bound : x ≤ n
-  pub word : w ≡ built x f
-
--- l has f below x, and 0 from x on, on the way to n
-pub record Filling (n : ℕ) (f : ℕ → ℕ) (l : List ℕ) (x : ℕ) : Type 0 where
-  pub bound : x ≤ n
-  pub list : l ≡ padded mostStates x f
 
 -- m is the union of the rows of w's members but for those in `rest`
 pub record Joining (w : ℕ) (r : List ℕ) (m rest : ℕ) : Type 0 where

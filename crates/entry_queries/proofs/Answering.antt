@@ -11,7 +11,7 @@ use Rattle.meaning.specs.Instrument.{Instrument, Accepted}
 use Rattle.meaning.specs.File.Parser.{Got, found, fault}
 use Rattle.meaning.specs.File.Number.{choose}
 use Rattle.meaning.specs.File.Grammar.{Contents, instrumentOf, readFile}
-use Rattle.meaning.specs.Reference.Answers.{Outcome, refused, entries, lentAfter, fitting}
+use Rattle.answers.specs.Buffers.{Outcome, refused, entries, lentAfter, fitting}
 use Rattle.meaning.proofs.File.Accepted.{file-accepted}
 use Rattle.cursor.specs.Answers.{number}
 use Rattle.cursor.specs.declared.Refusal.{Refusal}

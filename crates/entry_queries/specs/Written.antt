@@ -2,7 +2,7 @@
 use mathlib.Core.Path.{_≡_}
 use mathlib.Core.List.{List}
 use Prim.Native.Nat.{ℕ}
-use Rattle.meaning.specs.Reference.Answers.{Outcome, outcomeNumber, lentAfter}
+use Rattle.answers.specs.Buffers.{Outcome, outcomeNumber, lentAfter}
 use Rattle.cursor.specs.Answers.{number}
 use Rattle.answers.specs.Outcomes.{outcomeCount}
 use Rattle.entry_queries.specs.declared.Written.{Written}

@@ -7,7 +7,8 @@ use state_words::StateSet;
 ghost use mathlib.Core.Path.{_≡_};
 ghost use lib.ListN.{length};
 ghost use Rattle.meaning.specs.File.Grammar.{Contents, instrumentOf};
-ghost use Rattle.meaning.specs.Reference.Answers.{fitting, classNames, fullCount, fullWords, markWords, mergedSize, mergedWords};
+ghost use Rattle.meaning.specs.Reference.Answers.{classNames, fullCount, fullWords, markWords, mergedSize, mergedWords};
+ghost use Rattle.answers.specs.Buffers.{fitting};
 ghost use Rattle.instrument.specs.Described.{Describes};
 ghost use Rattle.instrument.specs.Outline.{whole};
 ghost use Rattle.answers.specs.Outcomes.{within, classOutcome, fullOutcome, markOutcome, mergedOutcome};
@@ -97,7 +98,7 @@ fn write_named(t: Outline, nexts: &[StateSet], out: &mut [u8]) -> Written
     if out.len() < named {
         return Written::Refused(Refusal::Short);
     }
-    partitions::write_classes(t, nexts, out);
+    root_classes::write_root_classes(t, nexts, out);
     Written::Entries(named)
 }
 
@@ -124,7 +125,7 @@ fn write_short(t: Outline, nexts: &[StateSet], out: &mut [u32]) -> Written
     ensures { λ r. ⌜ ((k : Contents) → Describes (whole t (now (nexts .entry))) k → Answered (within (mergedSize (instrumentOf k)) 12 (fitting (length (now (out .entry))) (mergedWords (instrumentOf k)))) r (now (out .entry)) (now (out .exit))) ⌝ }
 {
     let marks = marks::nodes::all_marks(t, nexts);
-    let names = partitions::marked_classes(t, nexts, marks);
+    let names = root_classes::root_classes(t, nexts, marks);
     let merged = merging::merged_count(t, names);
     if 4096 < merged {
         return Written::Refused(Refusal::MergedSize);
@@ -132,7 +133,7 @@ fn write_short(t: Outline, nexts: &[StateSet], out: &mut [u32]) -> Written
     if out.len() < merged {
         return Written::Refused(Refusal::Short);
     }
-    merged_words::write_merged(t, nexts, marks, names, out);
+    root_words::write_root_words(t, nexts, marks, names, out);
     Written::Entries(merged)
 }
 

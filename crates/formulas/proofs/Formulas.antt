@@ -6,6 +6,7 @@ use native.Mathlib.Omega.{arith}
 use borrow.Author.Tests.{lt-ltb, le-ltb}
 use Prim.Native.Nat.{ℕ, suc, _-_, _≤_, _<_}
 use Rattle.words.specs.Sets.{has}
+use Rattle.meaning.specs.Atoms.{Atom}
 use Rattle.meaning.specs.Nodes as formula
 use Rattle.meaning.specs.File.Parser.{Got, found, fault, on}
 use Rattle.meaning.specs.File.Grammar.{number, lessThan, named, operands, node, limits}
@@ -15,12 +16,12 @@ use Rattle.parsing.specs.Stages.{mapped}
 use Rattle.formulas.specs.Formulas.{oneOperand, twoOperands}
 
 -- a node of one operand that was read, and of two
-pub one : (f : ℕ → formula.Node ℕ) (kind : ℕ) → ((a : ℕ) → oneOperand kind a ≡ nodeOf (f a)) → (g : Got ℕ)
+pub one : (f : ℕ → formula.Node Atom) (kind : ℕ) → ((a : ℕ) → oneOperand kind a ≡ nodeOf (f a)) → (g : Got ℕ)
     → mapped (oneOperand kind) g ≡ mapped nodeOf (on g (λ a at. found (f a) at))
 one f kind h (found a at) = ap (λ n. found n at) (h a)
 one f kind h (fault r) = refl
 
-pub two : (f : ℕ → ℕ → formula.Node ℕ) (kind : ℕ) → ((a b : ℕ) → _≡_ {A = Node} (record { kind = kind; left = a; right = b }) (nodeOf (f a b)))
+pub two : (f : ℕ → ℕ → formula.Node Atom) (kind : ℕ) → ((a b : ℕ) → _≡_ {A = Node} (record { kind = kind; left = a; right = b }) (nodeOf (f a b)))
     → (g : Got ℕ) (other : ℕ → Got ℕ)
     → on g (λ a n. on (other n) (λ b at. found (record { kind = kind; left = a; right = b }) at))
     ≡ mapped nodeOf (on g (λ a n. on (other n) (λ b at. found (f a b) at)))

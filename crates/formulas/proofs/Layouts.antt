@@ -5,6 +5,7 @@ use lib.ListN.{length, length-map, set, getD}
 use lib.Seq.{sets}
 use native.Mathlib.Omega.{arith}
 use Prim.Native.Nat.{ℕ, zero, suc, _+_, _*_, _≤_, _<_}
+use Rattle.meaning.specs.Atoms.{Atom}
 use Rattle.meaning.specs.File.Parser.{on, listOf, found}
 use Rattle.meaning.specs.Nodes as formula
 use Rattle.meaning.specs.File.Grammar.{Component, Contents, limits, lessThan, startState, start}
@@ -16,10 +17,7 @@ use Rattle.instrument.proofs.Rows.{filled-at, rows-more}
 use Rattle.parsing.proofs.Parsers.{on-each}
 use Rattle.parsing.proofs.Stores.{sets-map}
 use Rattle.parsing.proofs.Times.{contents}
-use Rattle.formulas.specs.declared.nodes.NodeList.{NodeList}
-use Rattle.formulas.specs.declared.starts.StartList.{StartList}
-use Rattle.formulas.specs.Formulas.{startBy, nodeArray, startArray}
-use Rattle.formulas.specs.Steps.{changed, withNodeList, withStartList}
+use Rattle.formulas.specs.Formulas.{startBy}
 
 -- a start is judged by the sizes of its components
 states-same : (file : List ℕ) (u v : List ℕ) (n c : ℕ) → ((i : ℕ) → i < c + n → getD u i 0 ≡ getD v i 0) → (at : ℕ)
@@ -39,18 +37,18 @@ start-same : (file : List ℕ) (n : ℕ) (vs : List ℕ) → length vs ≤ n →
 start-same file n vs h at = states-same file (row n vs) vs (length vs) 0 (λ i l. filled-at 0 n vs h i) at
 
 -- contents with these nodes, or these starts
-abbrev pub withNodes : Contents → List (formula.Node ℕ) → Contents
-withNodes k ns = contents (k .signals) (k .components) ns (k .starts)
+abbrev pub withNodes : Contents → List (formula.Node Atom) → Contents
+withNodes k ns = contents (k .sets) (k .signals) (k .components) ns (k .starts)
 
 abbrev pub withStarts : Contents → List (List ℕ) → Contents
-withStarts k ss = contents (k .signals) (k .components) (k .nodes) ss
+withStarts k ss = contents (k .sets) (k .signals) (k .components) (k .nodes) ss
 
 none : {A : Type 0} (l : List A) → length l ≤ 0 → l ≡ []
 none [] h = refl
 none (a ∷ l) h = absurd (omega arith)
 
 -- a node more is stored after those of a list
-pub node-more : (l l₀ : List Node) (k : ℕ) (n : Node) (ns : List (formula.Node ℕ)) (a : formula.Node ℕ) → length ns ≡ k → n ≡ nodeOf a
+pub node-more : (l l₀ : List Node) (k : ℕ) (n : Node) (ns : List (formula.Node Atom)) (a : formula.Node Atom) → length ns ≡ k → n ≡ nodeOf a
     → l ≡ sets l₀ 0 (map nodeOf ns) → set l k n ≡ sets l₀ 0 (map nodeOf (ns ++ (a ∷ [])))
 node-more l l₀ k n ns a q p h = rw (h, p, sym q) (sets-map nodeOf l₀ ns a)
 
@@ -65,20 +63,8 @@ module _ (t : Instrument) (k : Contents) (e : t ≡ layout k) where
   pub without-nodes : t .nodecount ≤ 0 → k .nodes ≡ []
   without-nodes h = none (k .nodes) (omega (arith, ap (λ (u : Instrument). u .nodecount) e))
 
-  pub nodes-laid : (ns : List (formula.Node ℕ)) (r : NodeList) → r .count ≡ length ns → r .nodes ≡ nodeArray ns
-      → withNodeList t r ≡ layout (withNodes k ns)
-  nodes-laid ns r n m =
-      ap₂ (λ (i : ℕ) (l : List Node). changed t i l (t .startcount) (t .starts)) n m
-      ∙ ap (λ (u : Instrument). changed u (length ns) (nodeArray ns) (u .startcount) (u .starts)) e
-
   pub without-starts : t .startcount ≤ 0 → k .starts ≡ []
   without-starts h = none (k .starts) (omega (arith, ap (λ (u : Instrument). u .startcount) e))
-
-  pub starts-laid : (ss : List (List ℕ)) (r : StartList) → r .count ≡ length ss → r .starts ≡ startArray ss
-      → withStartList t r ≡ layout (withStarts k ss)
-  starts-laid ss r n m =
-      ap₂ (λ (i : ℕ) (l : List ℕ). changed t (t .nodecount) (t .nodes) i l) n m
-      ∙ ap (λ (u : Instrument). changed u (u .nodecount) (u .nodes) (length ss) (startArray ss)) e
 
   -- a start by the instrument's sizes is one by the sizes of the contents
   pub start-laid : t .components ≤ limits .components

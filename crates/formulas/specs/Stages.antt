@@ -2,17 +2,18 @@
 use mathlib.Core.List.{List, [], _∷_, _++_, map}
 use lib.ListN.{length}
 use Prim.Native.Nat.{ℕ}
+use Rattle.meaning.specs.Atoms.{Atom}
 use Rattle.meaning.specs.Nodes.{Node}
 use Rattle.meaning.specs.File.Parser.{_>>=_, give}
 use Rattle.meaning.specs.File.Grammar.{Contents, limits, between, node, start, drivenBy}
 use Rattle.parsing.specs.Stages.{Stage, times}
 
 -- contents with one node more, or one start
-abbrev pub withNode : Contents → Node ℕ → Contents
-withNode k a = record { signals = k .signals; components = k .components; nodes = k .nodes ++ (a ∷ []); starts = k .starts }
+abbrev pub withNode : Contents → Node Atom → Contents
+withNode k a = record { signals = k .signals; components = k .components; nodes = k .nodes ++ (a ∷ []); starts = k .starts; sets = k .sets }
 
 abbrev pub withStart : Contents → List ℕ → Contents
-withStart k s = record { signals = k .signals; components = k .components; nodes = k .nodes; starts = k .starts ++ (s ∷ []) }
+withStart k s = record { signals = k .signals; components = k .components; nodes = k .nodes; starts = k .starts ++ (s ∷ []); sets = k .sets }
 
 abbrev pub addNode : Stage
 addNode k = do

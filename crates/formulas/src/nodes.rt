@@ -10,12 +10,10 @@ use parsing::Outcome;
 ghost use mathlib.Core.Path.{_≡_};
 ghost use Prim.Native.Nat.{_≤_};
 ghost use Rattle.meaning.specs.File.Grammar.{limits, nodes};
-ghost use Rattle.parsing.specs.declared.Outcome.the-variants.{Refused};
 ghost use Rattle.parsing.specs.Stages.{mapped};
-ghost use Rattle.formulas.specs.Formulas.{gotNodes, nodeArray};
-ghost use Rattle.formulas.specs.Steps.{ReadsNodes};
+ghost use Rattle.formulas.specs.Formulas.{nodesIn, NodesAre, refusedNodes, nodesAfter};
 
-// So many nodes from the front of an array on and the place after them, or why they are refused.
+// So many nodes from the front of an array on and the place after them, or why they are refused; then there are none.
 pub struct NodeList {
     pub outcome: Outcome,
     pub at: usize,
@@ -25,7 +23,7 @@ pub struct NodeList {
 
 // The list of a file that is refused.
 fn no_nodes(r: Refusal) -> NodeList
-    ensures { λ q. ⌜ q .outcome ≡ Refused r ⌝ }
+    ensures { λ q. ⌜ q ≡ refusedNodes r ⌝ }
 {
     NodeList {
         outcome: Outcome::Refused(r),
@@ -42,8 +40,7 @@ fn no_nodes(r: Refusal) -> NodeList
 // So many nodes.
 fn all_nodes(file: &[u8], from: Cursor, count: u32, w: u32, driven: u32) -> NodeList
     requires { ⌜ (count ≤ limits .nodes) × (w ≤ limits .signals) ⌝ }
-    ensures { λ r. ⌜ gotNodes r ≡ mapped nodeArray (nodes limits w driven count (now (file .entry)) (from .at)) ⌝ }
-    ensures { λ r. ⌜ r .count ≡ count ⌝ }
+    ensures { λ r. ⌜ NodesAre r (mapped nodesIn (nodes limits w driven count (now (file .entry)) (from .at))) ⌝ }
 {
     let mut list = [Node {
         kind: 0,
@@ -55,12 +52,7 @@ fn all_nodes(file: &[u8], from: Cursor, count: u32, w: u32, driven: u32) -> Node
     while k < count {
         match formula::node(file, place, w, driven, k) {
             NodeRead::Unknown(r) => {
-                return NodeList {
-                    outcome: Outcome::Refused(r),
-                    at: 0,
-                    count,
-                    nodes: list,
-                };
+                return no_nodes(r);
             }
             NodeRead::Known(n, next) => {
                 list[k as usize] = n;
@@ -80,7 +72,7 @@ fn all_nodes(file: &[u8], from: Cursor, count: u32, w: u32, driven: u32) -> Node
 // The node count and the nodes, over w signals of which these are driven, if the file is accepted so far.
 pub fn nodes(file: &[u8], so_far: Outcome, from: Cursor, w: u32, driven: u32) -> NodeList
     requires { ⌜ w ≤ limits .signals ⌝ }
-    ensures { λ r. ⌜ ReadsNodes (now (file .entry)) «so_far» (from .at) w driven r ⌝ }
+    ensures { λ r. ⌜ NodesAre r (nodesAfter «so_far» (from .at) w driven (now (file .entry))) ⌝ }
 {
     match so_far {
         Outcome::Refused(r) => no_nodes(r),

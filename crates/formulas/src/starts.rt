@@ -10,12 +10,10 @@ ghost use mathlib.Core.Path.{_≡_};
 ghost use Prim.Native.Nat.{_≤_};
 ghost use Rattle.meaning.specs.File.Parser.{repeat};
 ghost use Rattle.meaning.specs.File.Grammar.{limits};
-ghost use Rattle.parsing.specs.declared.Outcome.the-variants.{Refused};
 ghost use Rattle.parsing.specs.Stages.{mapped};
-ghost use Rattle.formulas.specs.Formulas.{startBy, gotStarts, startArray};
-ghost use Rattle.formulas.specs.Steps.{ReadsStarts};
+ghost use Rattle.formulas.specs.Formulas.{startBy, startsIn, StartsAre, refusedStarts, startsAfter};
 
-// So many starts from the front of an array on and the place after them, or why they are refused.
+// So many starts from the front of an array on and the place after them, or why they are refused; then there are none.
 pub struct StartList {
     pub outcome: Outcome,
     pub at: usize,
@@ -25,7 +23,7 @@ pub struct StartList {
 
 // The list of a file that is refused.
 fn no_starts(r: Refusal) -> StartList
-    ensures { λ q. ⌜ q .outcome ≡ Refused r ⌝ }
+    ensures { λ q. ⌜ q ≡ refusedStarts r ⌝ }
 {
     StartList {
         outcome: Outcome::Refused(r),
@@ -44,8 +42,7 @@ fn all_starts(
     sizes: [u32; Instrument::MAX_COMPONENTS],
 ) -> StartList
     requires { ⌜ (count ≤ limits .starts) × (n ≤ limits .components) ⌝ }
-    ensures { λ r. ⌜ gotStarts r ≡ mapped startArray (repeat (startBy sizes n) count (now (file .entry)) (from .at)) ⌝ }
-    ensures { λ r. ⌜ r .count ≡ count ⌝ }
+    ensures { λ r. ⌜ StartsAre r (mapped startsIn (repeat (startBy sizes n) count (now (file .entry)) (from .at))) ⌝ }
 {
     let mut list = [0u32; Instrument::ALL_STARTS];
     let mut place = from;
@@ -60,12 +57,7 @@ fn all_starts(
             Instrument::MAX_COMPONENTS * (j as usize),
         ) {
             Moved::Stopped(r) => {
-                return StartList {
-                    outcome: Outcome::Refused(r),
-                    at: 0,
-                    count,
-                    starts: list,
-                };
+                return no_starts(r);
             }
             Moved::To(next) => {
                 place = next;
@@ -90,7 +82,7 @@ pub fn starts(
     sizes: [u32; Instrument::MAX_COMPONENTS],
 ) -> StartList
     requires { ⌜ n ≤ limits .components ⌝ }
-    ensures { λ r. ⌜ ReadsStarts (now (file .entry)) «so_far» (from .at) n sizes r ⌝ }
+    ensures { λ r. ⌜ StartsAre r (startsAfter «so_far» (from .at) sizes n (now (file .entry))) ⌝ }
 {
     match so_far {
         Outcome::Refused(r) => no_starts(r),

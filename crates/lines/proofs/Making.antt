@@ -4,7 +4,7 @@ use mathlib.Core.List.{List, _++_}
 use lib.ListN.{length, drop, length-append}
 use native.Mathlib.Omega.{arith}
 use Prim.Native.Nat.{ℕ, _+_, _≤_}
-use Rattle.meaning.proofs.Basic.Entries.{lent-sets}
+use Rattle.answers.proofs.Buffers.{lent-sets}
 use Rattle.answers.specs.Listing.{lineEnd}
 use Rattle.text.specs.Texts.{Put, Room}
 use Rattle.text.proofs.Texts.{put-more}

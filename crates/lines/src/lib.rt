@@ -3,8 +3,7 @@
 mod pieces; // pieces.rt: each word, each line
 
 ghost use mathlib.Core.Path.{_≡_};
-ghost use Prim.Native.Nat.{_+_, _*_, _≤_, _<_};
-ghost use lib.ListN.{length};
+ghost use Prim.Native.Nat.{_+_, _*_, _<_};
 ghost use Rattle.answers.specs.Outcomes.{given};
 ghost use Rattle.answers.specs.Lines.{wordsLine, markLines, hexadecimalLine, lookupLine, judgementLine};
 ghost use Rattle.text.specs.Texts.{Room, textOf};

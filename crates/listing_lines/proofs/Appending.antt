@@ -1,10 +1,10 @@
 -- Laws of pieces put one after the other into a buffer: the start, the room for one more, one more, the end.
 use mathlib.Core.Path.{_≡_}
 use mathlib.Core.List.{List}
-use lib.ListN.{length, length-append}
+use lib.ListN.{length-append}
 use native.Mathlib.Numerals.{add-one}
 use native.Mathlib.Omega.{arith}
-use Prim.Native.Nat.{ℕ, suc, _+_, _≤_, _<_}
+use Prim.Native.Nat.{ℕ, suc, _+_, _<_}
 use Rattle.meaning.specs.Reference.Answers.{joinBelow}
 use Rattle.text.specs.Texts.{Put, Room}
 use Rattle.text.proofs.Texts.{put-none, put-more, put-length}

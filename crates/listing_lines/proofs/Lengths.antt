@@ -12,7 +12,7 @@ use Rattle.meaning.specs.Instrument.{Instrument, components, rootFormula, table
 use Rattle.meaning.specs.File.Grammar.{Contents, instrumentOf, limits, mostStates}
 use Rattle.meaning.specs.File.Promise.{Promised}
 use Rattle.meaning.specs.Tests.{anyBelow}
-use Rattle.meaning.specs.View.{wholeWords}
+use Rattle.meaning.specs.Seen.{viewOf}
 use Rattle.meaning.specs.Reference.Relation.{relB}
 use Rattle.meaning.specs.Reference.Tests.{lowest}
 use Rattle.meaning.specs.Reference.Answers.{joinBelow, classesAt, mergedSize, fullCount}
@@ -118,7 +118,7 @@ module _ (k : Contents) (p : Promised limits k) where
 
   -- a class name is at most the number of states
   pub small-name : (i x : ℕ) → i < components I → classesAt I i x ≤ mostStates
-  small-name i x l = omega (arith, few-states i l, lowest-most (table I i .states) (relB (table I i) (wholeWords (table I i)) (rootFormula I) x))
+  small-name i x l = omega (arith, few-states i l, lowest-most (table I i .states) (relB (table I i) (viewOf I i) (rootFormula I) x))
 
   -- the class lines, and the listing
   pub classes-length : length (classLines I) ≤ limits .components * (39 + 3 * mostStates)

@@ -9,10 +9,12 @@ use Prim.Native.Nat.{ℕ, suc, _+_, _*_, _≤_, _<_}
 use Rattle.meaning.specs.Instrument as meaning
 use Rattle.meaning.specs.Instrument.{components, table}
 use Rattle.meaning.specs.Nodes.{formulaAt}
-use Rattle.meaning.specs.View.{wholeWords}
+use Rattle.meaning.specs.Seen.{viewOf}
 use Rattle.meaning.specs.File.Grammar.{Contents, instrumentOf}
-use Rattle.meaning.specs.Reference.Answers.{listBelow, joinBelow, entries, lentAfter, markWords, passWord, failWord}
-use Rattle.meaning.proofs.Basic.Entries.{list-length, list-at, join-length, join-same, lent-sets}
+use Rattle.meaning.specs.Reference.Answers.{listBelow, joinBelow, markWords, passWord, failWord}
+use Rattle.answers.specs.Buffers.{entries, lentAfter}
+use Rattle.meaning.proofs.Basic.Entries.{list-length, list-at, join-length, join-same}
+use Rattle.answers.proofs.Buffers.{lent-sets}
 use Rattle.instrument.specs.declared.Instrument.{Instrument}
 use Rattle.instrument.specs.Described.{Describes}
 use Rattle.instrument.proofs.Places.{nodecount-is}
@@ -34,13 +36,13 @@ module _ (t : Instrument) where
   all-start = record { reached = omega arith; each = λ k d. written-start (replicate 4 noRow) 0 (t .components) _ }
 
   pub all-more : (i : ℕ) (m : List (List Mark)) (row : List Mark) → i < t .components
-      → ((k : Contents) → Describes t k → row ≡ listMarks (table (instrumentOf k) i) (k .nodes))
+      → ((k : Contents) → Describes t k → row ≡ listMarks (table (instrumentOf k) i) (viewOf (instrumentOf k) i) (k .nodes))
       → MarkingAll t i m → MarkingAll t (i + 1) (set m i row)
   all-more i m row h e s =
       record {
         reached = omega arith;
         each =
-            λ k d. singles-more (λ i. listMarks (table (instrumentOf k) i) (k .nodes)) (replicate 4 noRow) (t .components) i m row h (e k d)
+            λ k d. singles-more (λ i. listMarks (table (instrumentOf k) i) (viewOf (instrumentOf k) i) (k .nodes)) (replicate 4 noRow) (t .components) i m row h (e k d)
             (s .each k d);
       }
 
@@ -48,16 +50,16 @@ module _ (t : Instrument) where
       → m ≡ marksOf (instrumentOf k)
   unfolding marksOf
   all-end i m e s k d =
-      let g : ℕ → List Mark = λ i. listMarks (table (instrumentOf k) i) (k .nodes) in
+      let g : ℕ → List Mark = λ i. listMarks (table (instrumentOf k) i) (viewOf (instrumentOf k) i) (k .nodes) in
       written-end (replicate 4 noRow) 0 (t .components) (λ i. g i ∷ []) i m e (s .each k d)
       ∙ ap (λ vs. sets (replicate 4 noRow) 0 vs) (join-list g (t .components) ∙ ap (λ n. listBelow n g) (sym (table-count t k d)))
 
 -- what stands in the array
 module _ (I : meaning.Instrument) (few : components I ≤ 4) (short : length (I .nodes) ≤ 24) where
   abbrev nodeMark : ℕ → ℕ → Mark
-  nodeMark i k = formulaMark (table I i) (wholeWords (table I i)) (formulaAt (I .nodes) k)
+  nodeMark i k = formulaMark (table I i) (viewOf I i) (formulaAt (I .nodes) k)
 
-  row-at : (i : ℕ) → i < components I → getD (marksOf I) i [] ≡ listMarks (table I i) (I .nodes)
+  row-at : (i : ℕ) → i < components I → getD (marksOf I) i [] ≡ listMarks (table I i) (viewOf I i) (I .nodes)
   unfolding marksOf
   row-at i h =
       let e : 0 + i ≡ i = zero-add i in
@@ -67,7 +69,7 @@ module _ (I : meaning.Instrument) (few : components I ≤ 4) (short : length (I 
       ∙ list-at (components I) rowOf [] i h
     where
       rowOf : ℕ → List Mark
-      rowOf i = listMarks (table I i) (I .nodes)
+      rowOf i = listMarks (table I i) (viewOf I i) (I .nodes)
 
   pub mark-at : (i k : ℕ) → i < components I → k < length (I .nodes) → getD (getD (marksOf I) i []) k noMark ≡ nodeMark i k
   unfolding listMarks

@@ -1,5 +1,5 @@
 -- The rules, applied to the marks of the operands, give the marks of the formula (meaning's passB and failB).
-use mathlib.Core.Path.{_≡_, sym}
+use mathlib.Core.Path.{_≡_, refl, sym}
 use mathlib.Core.Bool.{Bool}
 use lib.Dec.{T}
 use Prim.Native.Nat.{ℕ}
@@ -7,13 +7,13 @@ use Rattle.words.specs.Sets.{has, built}
 use Rattle.words.proofs.Built.{built-lt, built-below, built-empty, built-union, built-intersection}
 use Rattle.meaning.specs.Table.{Table}
 use Rattle.meaning.specs.Formula.{Formula, top, or, ex, eg, eu}
-use Rattle.meaning.specs.View.{View}
+use Rattle.meaning.specs.View.{View, atoms}
 use Rattle.meaning.specs.Reference.Marks.{passB, failB}
 use Rattle.meaning.proofs.Basic.Decides.{Decides, test-decides, not-decides}
 use Rattle.meaning.proofs.Meaning.TableSteps.{must-decides, can-decides}
 use Rattle.meaning.proofs.Meaning.TablePaths.{keeps-decides, reach-decides}
 use Rattle.meaning.proofs.Marks.Sets.{largest-decides, least-decides}
-use Rattle.marks.specs.Formulas.{formulaMark}
+use Rattle.marks.specs.Formulas.{formulaMark, Sees}
 use Rattle.mark_rules.specs.Rules.{InRange, trueMark, orMark, exMark, egMark, euMark, exPass, exFail, egPass, egFail, euPass, euFail}
 use Rattle.mark_rules.proofs.Rules.{mark-is}
 use Rattle.mark_rules.proofs.Tests.{same-word, built-decides}
@@ -64,3 +64,7 @@ module _ {A : Type 0} (t : Table) (κ : View A) where
       mark-is _ _ _ (same-word (least-decides t (word p) (word q)) (least-decides t (test p) (test q)))
       (same-word (not-decides (reach-decides t (not-decides (word f)) (not-decides (word g))))
       (not-decides (reach-decides t (not-decides (test f)) (not-decides (test g)))))
+
+-- a table's own view, whatever it compares, sees its signals
+pub own-view : (t : Table) (compared : ℕ → ℕ) → Sees t (atoms compared t)
+own-view t compared = record { pass = λ w x. refl; fail = λ w x. refl; related = λ w x y. refl }

@@ -1,24 +1,34 @@
 -- The parts of an instrument's arrays that are a component's lists, and the formula that its nodes list.
 use mathlib.Core.Path.{_≡_, refl, sym, ap, _∙_}
 use mathlib.Core.List.{List}
-use lib.ListN.{length, getD, take, drop}
+use lib.ListN.{length, getD}
 use native.Mathlib.Nat.{mul-comm}
 use native.Mathlib.Omega.{arith}
-use Prim.Native.Nat.{ℕ, _+_, _-_, _*_, _%_, _^_, _≤_, _<_}
+use Prim.Native.Nat.{ℕ, _^_, _<_}
 use Rattle.meaning.specs.Instrument.{table}
-use Rattle.meaning.specs.File.Grammar.{Contents, instrumentOf, limits, mostStates, mostNexts}
+use Rattle.meaning.specs.File.Grammar.{Contents, instrumentOf, limits}
 use Rattle.meaning.specs.File.Promise.{PromisedComponent, componentAt}
-use Rattle.meaning.specs.Table.{fromWords}
+use Rattle.meaning.specs.Table.{Table, fromWords}
 use Rattle.meaning.proofs.File.Accepted.{table-is, promised-at, word-at}
 use Rattle.instrument.specs.declared.Instrument.{Instrument}
 use Rattle.instrument.specs.declared.Node.{Node}
+use Rattle.instrument.specs.declared.ListBounds.{ListBounds}
 use Rattle.instrument.specs.Described.{Describes}
 use Rattle.instrument.specs.Lent.{Lent, LentAll}
-use Rattle.instrument.proofs.Parts.{Lies, lies, cut}
-use Rattle.instrument.proofs.Places.{components-is, nodecount-is, states-at, inputcounts-at, outputcounts-at, nodes-at}
-use Rattle.instrument.proofs.Places.{outputs-part, outs-part, nexts-part}
+use Rattle.instrument.specs.Bounds.{Limited, boundsOf, boundsAt, part}
+use Rattle.instrument.proofs.Parts.{Lies, lies, limited, Parted, parted}
+use Rattle.instrument.proofs.Places.{components-is, nodecount-is, states-at, inputcounts-at, nodes-at}
 use Rattle.marks.specs.Component.{Lists}
 use Rattle.marks.specs.NodeMarks.{Listing}
+
+-- the lists of a component, and its table, from its parts of the arrays
+abbrev pub PartLists : ℕ → ℕ → ListBounds → List ℕ → List ℕ → List ℕ → Type 0
+PartLists states inputs b nexts outs outputs =
+    Lists states inputs (part (b .outputs) (b .outputsend) outputs) (part (b .outs) (b .outsend) outs) (part (b .nexts) (b .nextsend) nexts)
+
+abbrev pub partTable : ℕ → List ℕ → ListBounds → List ℕ → List ℕ → List ℕ → Table
+partTable states ins b nexts outs outputs =
+    fromWords states ins (part (b .outputs) (b .outputsend) outputs) (part (b .outs) (b .outsend) outs) (part (b .nexts) (b .nextsend) nexts)
 
 module _ (t : Instrument) (k : Contents) (d : Describes t k) where
   pub listing : Listing (t .nodes) (t .nodecount) (k .nodes)
@@ -53,32 +63,15 @@ module _ (t : Instrument) (k : Contents) (d : Describes t k) where
           outCount = omega (arith, promised .outCount);
         })
 
-    -- the parts, as the code cuts them out
-    module _
-        (outputs outs nexts : ℕ)
-        (p : outputs ≡ getD (t .outputcounts) i 0)
-        (q : outs ≡ getD (t .states) i 0)
-        (r : nexts ≡ getD (t .states) i 0 * 2 ^ getD (t .inputcounts) i 0)
-      where
-        outputs-are : take outputs (drop (8 * i) (t .outputs)) ≡ componentAt k i .outputs
-        outputs-are = outputs-part t k d i outputs (omega (arith, components-is t k d)) (p ∙ outputcounts-at t k d i)
+    -- the parts by the component's bounds
+    are : Parted (boundsAt t i) (t .nexts) (t .outs) (t .outputs) (componentAt k i)
+    are = parted t k d i l
 
-        outs-are : take outs (drop (mostStates * i) (t .outs)) ≡ componentAt k i .outs
-        outs-are = outs-part t k d i outs (omega (arith, components-is t k d)) (q ∙ states-at t k d i ∙ sym (promised .outCount))
+    parts-lists : PartLists (getD (t .states) i 0) (getD (t .inputcounts) i 0) (boundsAt t i) (t .nexts) (t .outs) (t .outputs)
+    parts-lists = rw (are .outputs-are, are .outs-are, are .nexts-are) lists-promised
 
-        nexts-are : take nexts (drop (mostNexts * i) (t .nexts)) ≡ componentAt k i .nexts
-        nexts-are =
-            nexts-part t k d i nexts (omega (arith, components-is t k d))
-            (r ∙ (rw (states-at t k d i, inputcounts-at t k d i) (sym (promised .nextCount))))
-
-        parts-lists : Lists (getD (t .states) i 0) (getD (t .inputcounts) i 0) (take outputs (drop (8 * i) (t .outputs)))
-            (take outs (drop (mostStates * i) (t .outs))) (take nexts (drop (mostNexts * i) (t .nexts)))
-        parts-lists = rw (outputs-are, outs-are, nexts-are) lists-promised
-
-        parts-table : fromWords (getD (t .states) i 0) (componentAt k i .inputs) (take outputs (drop (8 * i) (t .outputs)))
-            (take outs (drop (mostStates * i) (t .outs))) (take nexts (drop (mostNexts * i) (t .nexts)))
-            ≡ table (instrumentOf k) i
-        parts-table = rw (outputs-are, outs-are, nexts-are, states-at t k d i) (sym (table-is k i))
+    parts-table : partTable (getD (t .states) i 0) (componentAt k i .inputs) (boundsAt t i) (t .nexts) (t .outs) (t .outputs) ≡ table (instrumentOf k) i
+    parts-table = rw (are .outputs-are, are .outs-are, are .nexts-are, states-at t k d i) (sym (table-is k i))
 
 -- the arrays of an instrument are lent whole
 pub lent-all : (t : Instrument)
@@ -117,18 +110,10 @@ pub all-listing : {t : Instrument} {k : Contents} {nexts outs outputs states inp
     → LentAll t nexts outs outputs states inputs many nodes count n → Listing nodes count (k .nodes)
 all-listing {t} {k} d l = rw (l .nodes-are, l .count-is) (listing t k d)
 
--- component c's parts of the arrays that are lent, as the code cuts them out
-pub record Parts (c : ℕ) (nexts outs outputs : List ℕ) (states inputs many : ℕ) : Type 0 where
-  pub few : c < 4
-  pub most-states : states ≤ mostStates
-  pub most-inputs : inputs ≤ 4
-  pub most-outputs : many ≤ 8
-  pub words : states * (1 * 2 ^ inputs % 2 ^ 64) ≤ mostNexts
-  pub nexts-end : mostNexts * c + states * (1 * 2 ^ inputs % 2 ^ 64) ≤ length nexts
-  pub outs-end : mostStates * c + states ≤ length outs
-  pub outputs-end : 8 * c + many ≤ length outputs
-  pub lists : Lists states inputs (take (8 * c + many - 8 * c) (drop (8 * c) outputs)) (take (mostStates * c + states - mostStates * c) (drop (mostStates * c) outs))
-      (take (mostNexts * c + states * (1 * 2 ^ inputs % 2 ^ 64) - mostNexts * c) (drop (mostNexts * c) nexts))
+-- the parts of lent arrays between a component's bounds: they are its lists
+pub record Parts (b : ListBounds) (nexts outs outputs : List ℕ) (states inputs : ℕ) : Type 0 where
+  pub lie : Lies b nexts outs outputs
+  pub lists : PartLists states inputs b nexts outs outputs
 
 module _
     {t : Instrument}
@@ -141,34 +126,21 @@ module _
     (d : Describes t k)
     (l : Lent t c nexts outs outputs states inputs many nodes count)
   where
-    at : Lies t c
-    at = lies t k d c (l .here)
+    pub lent-limited : Limited states inputs many c
+    lent-limited = rw (l .states-are, l .inputs-are, l .outputs-many) (limited t k d c (l .here))
 
-    pub parts : Parts c nexts outs outputs states inputs many
-    parts =
-        rw (l .nexts-are, l .outs-are, l .outputs-are, l .states-are, l .inputs-are, l .outputs-many)
-        (record {
-          few = at .few;
-          most-states = at .states;
-          most-inputs = at .inputs;
-          most-outputs = at .outputs;
-          words = at .words;
-          nexts-end = at .nexts-end;
-          outs-end = at .outs-end;
-          outputs-end = at .outputs-end;
-          lists = parts-lists t k d c (l .here) _ _ _ (cut _ _) (cut _ _) (at .words-cut);
-        })
+    pub parts : {b : ListBounds} → b ≡ boundsOf states inputs many c → Parts b nexts outs outputs states inputs
+    parts e =
+        rw (e, l .nexts-are, l .outs-are, l .outputs-are, l .states-are, l .inputs-are, l .outputs-many)
+        (record { lie = lies t k d c (l .here); lists = parts-lists t k d c (l .here) })
 
     pub lent-inputs : length (componentAt k c .inputs) ≡ inputs
     lent-inputs = sym (l .inputs-are ∙ inputcounts-at t k d c)
 
-    pub lent-table : fromWords states (componentAt k c .inputs) (take (8 * c + many - 8 * c) (drop (8 * c) outputs))
-        (take (mostStates * c + states - mostStates * c) (drop (mostStates * c) outs))
-        (take (mostNexts * c + states * (1 * 2 ^ inputs % 2 ^ 64) - mostNexts * c) (drop (mostNexts * c) nexts))
-        ≡ table (instrumentOf k) c
-    lent-table =
-        rw (l .nexts-are, l .outs-are, l .outputs-are, l .states-are, l .inputs-are, l .outputs-many)
-        (parts-table t k d c (l .here) _ _ _ (cut _ _) (cut _ _) (at .words-cut))
+    pub lent-table : {b : ListBounds} → b ≡ boundsOf states inputs many c
+        → partTable states (componentAt k c .inputs) b nexts outs outputs ≡ table (instrumentOf k) c
+    lent-table e =
+        rw (e, l .nexts-are, l .outs-are, l .outputs-are, l .states-are, l .inputs-are, l .outputs-many) (parts-table t k d c (l .here))
 
     pub lent-listing : Listing nodes count (k .nodes)
     lent-listing = rw (l .nodes-are, l .count-is) (listing t k d)

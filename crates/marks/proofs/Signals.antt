@@ -4,16 +4,16 @@ use mathlib.Core.Bool.{Bool, false, not, _&&_}
 use mathlib.Core.List.{List, []}
 use lib.Dec.{T, eqb, eqb→eq, eqb-refl}
 use lib.ListN.{length, getD}
-use Prim.Native.Nat.{ℕ, _+_, _<_}
+use Prim.Native.Nat.{ℕ, _<_}
 use native.Mathlib.Decide.{decLt}
 use native.Mathlib.Omega.{arith}
-use borrow.Author.Count.{below-none, below-more}
 use Rattle.words.specs.Sets.{has, built}
 use Rattle.words.proofs.Built.{built-same, built-empty}
 use Rattle.meaning.specs.Tests.{listed}
 use Rattle.meaning.specs.Table.{Table, fromWords, owns, drives}
+use Rattle.meaning.specs.Atoms.{onSignal}
 use Rattle.meaning.specs.Formula.{atom}
-use Rattle.meaning.specs.View.{signals}
+use Rattle.meaning.specs.View.{atoms}
 use Rattle.meaning.proofs.Basic.Booleans.{and-in, and-l, and-r, test-eq}
 use Rattle.meaning.proofs.Basic.Bounded.{any-in, any-out}
 use Rattle.meaning.proofs.Basic.Lists.{at-listed, listed-at}
@@ -24,7 +24,7 @@ use Rattle.marks.specs.Written.{Unlisted}
 use Rattle.mark_rules.specs.Rules.{foreignMark, ownMark, ownPass, ownFail}
 use Rattle.mark_rules.proofs.Rules.{mark-is}
 
-pub formula-foreign : (t : Table) (compared : ℕ → ℕ) (w : ℕ) → owns t w ≡ false → foreignMark ≡ formulaMark t (signals compared t) (atom w)
+pub formula-foreign : (t : Table) (compared : ℕ → ℕ) (w : ℕ) → owns t w ≡ false → foreignMark ≡ formulaMark t (atoms compared t) (atom (onSignal w))
 formula-foreign t compared w e = mark-is _ _ _ (sym (nothing (λ x. drives t x w))) (sym (nothing (λ x. not (drives t x w))))
   where
     nothing : (f : ℕ → Bool) → built (t .states) (λ x. owns t w && f x) ≡ 0
@@ -61,7 +61,7 @@ module _
     own-owns b =
         test-eq (owns t w && b) b (λ h. and-r (owns t w) b h) (λ h. and-in (owns t w) b (at-listed outputs j l) h)
 
-    pub formula-own : (compared : ℕ → ℕ) → ownMark n outs j ≡ formulaMark t (signals compared t) (atom w)
+    pub formula-own : (compared : ℕ → ℕ) → ownMark n outs j ≡ formulaMark t (atoms compared t) (atom (onSignal w))
     unfolding ownPass ownFail
     formula-own compared =
         mark-is _ _ _
@@ -87,12 +87,4 @@ module _ (n : ℕ) (outputs outs : List ℕ) (w : ℕ) where
   signal-foreign j e u =
       formula-foreign (fromWords n [] outputs outs []) (λ x. getD outs x 0) w
       (test-eq (listed outputs w) false
-      (λ h. let (i, l, q) = listed-at outputs w h in u .none i (omega arith) q) (λ h. absurd h))
-
--- a search through the list
-module _ (vs : List ℕ) (w : ℕ) where
-  pub unlisted-start : Unlisted vs w 0
-  unlisted-start = record { reached = omega arith; none = below-none (λ i. getD vs i 0 ≡ w → ⊥) }
-
-  pub unlisted-more : (j : ℕ) → j < length vs → (getD vs j 0 ≡ w → ⊥) → Unlisted vs w j → Unlisted vs w (j + 1)
-  unlisted-more j l h u = record { reached = omega arith; none = below-more (λ i. getD vs i 0 ≡ w → ⊥) j (u .none) h }
+      (λ h. let (i, l, q) = listed-at outputs w h in u .each i (omega arith) q) (λ h. absurd h))

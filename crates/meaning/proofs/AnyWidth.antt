@@ -4,7 +4,8 @@ use mathlib.Core.Logic.{_↔_}
 use mathlib.Core.List.{List}
 use lib.Dec.{T}
 use Prim.Native.Nat.{ℕ}
-use Rattle.meaning.specs.Combination.{State, Truth, high, index}
+use Rattle.meaning.specs.Atoms.{Atom}
+use Rattle.meaning.specs.Combination.{State, Truth, index}
 use Rattle.meaning.specs.File.Grammar.{Contents, Limits, instrumentOf, whole}
 use Rattle.meaning.specs.File.Parser.{found}
 use Rattle.meaning.specs.Formula.{Formula}
@@ -15,7 +16,8 @@ use Rattle.meaning.specs.Reference.Answers.{classesAt}
 use Rattle.meaning.specs.Reference.Merged.{lookupB, mergedB}
 use Rattle.meaning.specs.Reference.Truth.{truthB}
 use Rattle.meaning.specs.Table.{Table}
-use Rattle.meaning.specs.View.{View, wholeWords}
+use Rattle.meaning.specs.View.{View}
+use Rattle.meaning.specs.Seen.{valueOf, viewOf}
 use Rattle.meaning.proofs.Claims.{full-01, lookup-01, merged-01, merged-bits-01}
 use Rattle.meaning.proofs.File.Accepted.{accepted}
 use Rattle.meaning.proofs.File.Parsers.{reads-found}
@@ -31,22 +33,22 @@ module _ (L : Limits) (file : List ℕ) (c : Contents) (e : ℕ) (q : whole L fi
   abbrev S : ℕ → Table
   S = table I
 
-  abbrev κ : ℕ → View ℕ
-  κ i = wholeWords (S i)
+  abbrev κ : ℕ → View Atom
+  κ = viewOf I
 
   -- the full way's bit of a formula in a combined state
-  abbrev full : Formula ℕ → State n S → Type 0
-  full φ s = T (truthB n S (I .signals) (high n S) φ (index n (λ i. S i .states) (s .at)))
+  abbrev full : Formula Atom → State n S → Type 0
+  full φ s = T (truthB n S (I .signals) (valueOf I) φ (index n (λ i. S i .states) (s .at)))
 
   pub good-any : Accepted I
   good-any = accepted L c (reads-found (reads-whole L) file 0 c e q .0)
 
   -- the full way's bit is the truth by infinite paths
-  pub full-any : (k : ℕ) (s : State n S) → full (formulaAt (I .nodes) k) s ↔ Truth n S (high n S) (formulaAt (I .nodes) k) s
+  pub full-any : (k : ℕ) (s : State n S) → full (formulaAt (I .nodes) k) s ↔ Truth n S (valueOf I) (formulaAt (I .nodes) k) s
   full-any k s = full-01 I good-any k s
 
   -- the lookup's answer is the full way's bit of the root
-  pub agree-any : (s : State n S) → T (lookupB n S (classesAt I) κ (high n S) (I .signals) (rootFormula I) (s .at)) ↔ full (rootFormula I) s
+  pub agree-any : (s : State n S) → T (lookupB n S (classesAt I) κ (valueOf I) (I .signals) (rootFormula I) (s .at)) ↔ full (rootFormula I) s
   agree-any s =
       let a = lookup-01 I good-any s in
       let b = full-any (rootNode I) s in
@@ -55,7 +57,7 @@ module _ (L : Limits) (file : List ℕ) (c : Contents) (e : ℕ) (q : whole L fi
   -- the merged bit of the root, and of every node under it, is the full way's in each combined state that the merged state stands for
   pub merged-any : (k : ℕ) → Beneath (I .nodes) k (rootNode I) → (s : State n S) (m : State n (mergedTables n S (classesAt I)))
       → MergedOf n S (classesAt I) s m
-      → T (mergedB n S (classesAt I) κ (high n S) (I .signals) (formulaAt (I .nodes) k) (index n (mergedSizes n S (classesAt I)) (m .at)))
+      → T (mergedB n S (classesAt I) κ (valueOf I) (I .signals) (formulaAt (I .nodes) k) (index n (mergedSizes n S (classesAt I)) (m .at)))
       ↔ full (formulaAt (I .nodes) k) s
   merged-any k b s m o =
       let g = merged-bits-01 I good-any k m in

@@ -11,10 +11,11 @@ use native.Mathlib.Omega.{arith}
 use Prim.Native.Nat.{_%_, _<_, _^_, _≤_, suc, ℕ}
 use Rattle.words.proofs.Members.{has-lt}
 use Rattle.words.specs.Sets.{built, digit, has, insert}
+use Rattle.meaning.specs.Atoms.{Atom}
 use Rattle.meaning.specs.Cases.{Case, CaseHolds, Fact, Means, Reads, RootClasses, WordOf, Writes, cases, classes, combinations, fail}
 use Rattle.meaning.specs.Cases.{fullWords, mergedOf, mergedWords, pass, refused, verdict}
 use Rattle.meaning.specs.Classes.{classNumber}
-use Rattle.meaning.specs.Combination.{State, Truth, count, high, index}
+use Rattle.meaning.specs.Combination.{State, Truth, count, index}
 use Rattle.meaning.specs.File.Grammar.{Contents, between, component, instrumentOf, lessThan, named, node, readFile, signal, start}
 use Rattle.meaning.specs.File.Grammar.{whole, withAll}
 use Rattle.meaning.specs.File.Number.{groups}
@@ -36,7 +37,8 @@ use Rattle.meaning.specs.Table.{Table}
 use Rattle.meaning.specs.Tests.{All}
 use Rattle.meaning.specs.Verdict.{Answer, Right, Stage, Verdict, fails, holds, judged, marks, merged}
 use Rattle.meaning.specs.Verdict.{oversized}
-use Rattle.meaning.specs.View.{View, wholeWords}
+use Rattle.meaning.specs.View.{View}
+use Rattle.meaning.specs.Seen.{valueOf, viewOf}
 use Rattle.meaning.proofs.Basic.Booleans.{and-in, and-l, and-r, beq-eq, conj}
 use Rattle.meaning.proofs.Basic.Bounded.{all-out}
 use Rattle.meaning.proofs.Basic.Decides.{Decides}
@@ -46,7 +48,7 @@ use Rattle.meaning.proofs.File.Nodes.{beneath-in, beneath-listed, benea
 use Rattle.meaning.proofs.File.Promise.{accepted-sound}
 use Rattle.meaning.proofs.Marks.Decided.{fail-decides, pass-decides}
 use Rattle.meaning.proofs.Marks.Laws.{Fits}
-use Rattle.meaning.proofs.Marks.Signals.{signals-local, whole-fit}
+use Rattle.meaning.proofs.Marks.Atoms.{value-local, view-fit}
 use Rattle.meaning.proofs.Meaning.Index.{index-lt, index-same}
 
 -- a word with the bits of f below m and none from m on
@@ -111,10 +113,10 @@ module _ (I : Instrument) where
   abbrev S : ℕ → Table
   S = table I
 
-  abbrev κ : ℕ → View ℕ
-  κ i = wholeWords (S i)
+  abbrev κ : ℕ → View Atom
+  κ = viewOf I
 
-  abbrev ρ : Formula ℕ
+  abbrev ρ : Formula Atom
   ρ = rootFormula I
 
   abbrev cls : ℕ → ℕ → ℕ
@@ -123,7 +125,7 @@ module _ (I : Instrument) where
   abbrev sizes : ℕ → ℕ
   sizes i = S i .states
 
-  abbrev formula : ℕ → Formula ℕ
+  abbrev formula : ℕ → Formula Atom
   formula k = formulaAt (I .nodes) k
 
   -- a start as a combined state
@@ -132,13 +134,13 @@ module _ (I : Instrument) where
 
   -- the bits of node k at an index, in the full and in the merged combination
   abbrev fullB : ℕ → ℕ → Bool
-  fullB x k = truthB n S (I .signals) (high n S) (formula k) x
+  fullB x k = truthB n S (I .signals) (valueOf I) (formula k) x
 
   abbrev underB : ℕ → Bool
   underB k = beneathB (I .nodes) (suc (rootNode I)) k (rootNode I)
 
   abbrev bitB : ℕ → ℕ → Bool
-  bitB x k = underB k && mergedB n S cls κ (high n S) (I .signals) (formula k) x
+  bitB x k = underB k && mergedB n S cls κ (valueOf I) (I .signals) (formula k) x
 
   abbrev factB : Fact → Bool
   factB (refused r) = false
@@ -149,17 +151,17 @@ module _ (I : Instrument) where
   factB (mergedWords ws) = wordsB (mergedCount n S cls) (length (I .nodes)) bitB ws
   factB (mergedOf start x) = isStartB I start && eqb (mergedIndex n S cls (λ i. getD start i 0)) x
   factB (combinations m f) = eqb (mergedCount n S cls) m && eqb (count n sizes) f
-  factB (verdict a) = answerIs (verdictB n S κ ρ 4096 (I .signals) (high n S) stateOf (I .starts)) a
+  factB (verdict a) = answerIs (verdictB n S κ ρ 4096 (I .signals) (valueOf I) stateOf (I .starts)) a
 
   module _ (accepted : Accepted I) where
     abbrev good : WellFormed n S (I .signals)
     good = accepted .well-formed
 
-    fits : Fits n S (high n S) κ
-    fits = whole-fit n S (I .signals) good
+    fits : Fits n S (valueOf I) κ
+    fits = view-fit I accepted
 
     names : RootClasses I cls
-    names = root-class-names n S (I .signals) good (high n S) κ fits ρ
+    names = root-class-names n S (I .signals) good (valueOf I) κ fits ρ
 
     marked : (i w : ℕ) (b : ℕ → Bool) (P : ℕ → Type 0) → T (ltb i n && wordB (S i .states) b w) → (i < n → Decides (S i .states) b P)
         → (i < n) × WordOf (λ x. (x < S i .states) × P x) w
@@ -192,9 +194,9 @@ module _ (I : Instrument) where
       eqb→eq (length ws) (count n sizes) (search conj),
       λ s.
           let x = index n sizes (s .at) in
-          word-means (length (I .nodes)) (fullB x) (λ k. Truth n S (high n S) (formula k) s) (getD ws x 0)
+          word-means (length (I .nodes)) (fullB x) (λ k. Truth n S (valueOf I) (formula k) s) (getD ws x 0)
           (at (count n sizes) (length (I .nodes)) fullB ws h x (index-lt n sizes (s .at) (s .ok)))
-          (λ k l. full-way n S (I .signals) good (high n S) (signals-local n S) (formula k) s),
+          (λ k l. full-way n S (I .signals) good (valueOf I) (value-local I) (formula k) s),
     )
 
     under-means : (k : ℕ) → T (underB k) ↔ Beneath (I .nodes) k (rootNode I)
@@ -212,15 +214,15 @@ module _ (I : Instrument) where
     )
       where
         True : State n (mergedTables n S cls) → ℕ → Type 0
-        True c k = Beneath (I .nodes) k (rootNode I) × MergedTruth n S cls κ (high n S) (formula k) c
+        True c k = Beneath (I .nodes) k (rootNode I) × MergedTruth n S cls κ (valueOf I) (formula k) c
 
         bit : (c : State n (mergedTables n S cls)) (k : ℕ) → T (bitB (index n (mergedSizes n S cls) (c .at)) k) ↔ True c k
         bit c k =
             let x = index n (mergedSizes n S cls) (c .at) in
             let u = underB k in
-            let v = mergedB n S cls κ (high n S) (I .signals) (formula k) x in
-            let t = merged-bits n S (I .signals) good (high n S) κ fits (λ i. Rel (S i) (κ i) ρ)
-            (root-equivalence n S (I .signals) good (high n S) κ fits ρ) cls names (formula k) c in (
+            let v = mergedB n S cls κ (valueOf I) (I .signals) (formula k) x in
+            let t = merged-bits n S (I .signals) good (valueOf I) κ fits (λ i. Rel (S i) (κ i) ρ)
+            (root-equivalence n S (I .signals) good (valueOf I) κ fits ρ) cls names (formula k) c in (
               λ b. (under-means k .0 (and-l u v b), t .0 (and-r u v b)),
               λ p. and-in u v (under-means k .1 (p .0)) (t .1 (p .1)),
             )
@@ -260,9 +262,9 @@ module _ (I : Instrument) where
       start-state,
       all-map writes (I .starts) (accepted .starts),
       subst
-          (Right n S κ ρ (Truth n S (high n S) ρ) start-state (I .starts) (mergedCount n S cls ≤ 4096))
-          (answer-eq (verdictB n S κ ρ 4096 (I .signals) (high n S) stateOf (I .starts)) a h)
-          (verdict-right n S (I .signals) good (high n S) κ fits ρ 4096 start-state (I .starts)),
+          (Right n S κ ρ (Truth n S (valueOf I) ρ) start-state (I .starts) (mergedCount n S cls ≤ 4096))
+          (answer-eq (verdictB n S κ ρ 4096 (I .signals) (valueOf I) stateOf (I .starts)) a h)
+          (verdict-right n S (I .signals) good (valueOf I) κ fits ρ 4096 start-state (I .starts)),
     )
 
 -- a fact of a file as it was read

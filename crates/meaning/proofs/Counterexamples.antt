@@ -6,7 +6,8 @@ use lib.Dec.{T, T-not, lit<}
 use native.Mathlib.Omega.{arith}
 use Prim.Native.Nat.{_<_, suc, zero, ℕ}
 use Rattle.words.specs.Sets.{built, digit}
-use Rattle.meaning.specs.Combination.{State, Step, Truth, high, index}
+use Rattle.meaning.specs.Atoms.{Atom, onSignal}
+use Rattle.meaning.specs.Combination.{State, Step, Truth, index}
 use Rattle.meaning.specs.File.Grammar.{nodes}
 use Rattle.meaning.specs.Formula.{Formula, ex, top}
 use Rattle.meaning.specs.Instrument.{Accepted, Instrument, components, rootFormula, table}
@@ -14,13 +15,14 @@ use Rattle.meaning.specs.Merged.{mergedTables}
 use Rattle.meaning.specs.Nodes.{atom, eg}
 use Rattle.meaning.specs.Reference.Truth.{truthB}
 use Rattle.meaning.specs.Reference.Verdict.{rootClasses}
+use Rattle.meaning.specs.Seen.{value, valueOf, viewOf}
 use Rattle.meaning.specs.Table.{Table, Total, fromWords}
 use Rattle.meaning.specs.Tests.{listed}
-use Rattle.meaning.specs.View.{View, wholeWords}
+use Rattle.meaning.specs.View.{View}
 use Rattle.meaning.proofs.Basic.Bounded.{all-out}
 use Rattle.meaning.proofs.Demands.{full-way}
 use Rattle.meaning.proofs.File.Promise.{accepted-sound, total-sound}
-use Rattle.meaning.proofs.Marks.Signals.{signals-local}
+use Rattle.meaning.proofs.Marks.Atoms.{value-at, value-local}
 use Rattle.meaning.proofs.Meaning.Full.{full-at}
 use Rattle.meaning.proofs.Meaning.Index.{index-lt, index-same}
 
@@ -30,8 +32,9 @@ chainInstrument =
     record {
       signals = 1;
       tables = fromWords 3 [] (0 ∷ []) (1 ∷ 1 ∷ 0 ∷ []) (2 ∷ 4 ∷ 4 ∷ []) ∷ [];
-      nodes = atom 0 ∷ eg 0 ∷ [];
+      nodes = atom (onSignal 0) ∷ eg 0 ∷ [];
       starts = [];
+      sets = [];
     }
 
 abbrev n : ℕ
@@ -40,10 +43,10 @@ n = components chainInstrument
 abbrev S : ℕ → Table
 S = table chainInstrument
 
-abbrev κ : ℕ → View ℕ
-κ i = wholeWords (S i)
+abbrev κ : ℕ → View Atom
+κ = viewOf chainInstrument
 
-abbrev ρ : Formula ℕ
+abbrev ρ : Formula Atom
 ρ = rootFormula chainInstrument
 
 -- the chain's merged tables for EG p, with classes {0, 1} and {2}
@@ -64,28 +67,28 @@ small-below : (i : ℕ) → i < n → (w : ℕ) → T (listed (M i .inputs) w) �
 small-below zero l w h = absurd h
 small-below (suc i) l w h = absurd (omega arith)
 
-computed : truthB n M 1 (high n M) ρ 0 ≡ true
+computed : truthB n M 1 (value n M) ρ 0 ≡ true
 unfolding digit built
 computed = refl
 
 -- without the guard the chain's first class would get EG p: its two members merge into a loop
-pub unguarded : (c : State n M) → c .at 0 ≡ 0 → Truth n M (high n M) ρ c
+pub unguarded : (c : State n M) → c .at 0 ≡ 0 → Truth n M (value n M) ρ c
 unfolding digit
-unguarded c e = full-at n M total-below some-below 1 small-below (high n M) (signals-local n M) ρ c .0 (subst T (sym there) tt)
+unguarded c e = full-at n M total-below some-below 1 small-below (value n M) (value-at n M) ρ c .0 (subst T (sym there) tt)
   where
-    there : truthB n M 1 (high n M) ρ (index n (λ i. M i .states) (c .at)) ≡ true
+    there : truthB n M 1 (value n M) ρ (index n (λ i. M i .states) (c .at)) ≡ true
     there =
         let z : index n (λ i. M i .states) (c .at) ≡ 0 = index-same n (λ i. M i .states) (c .at) (λ i. 0) zeros in
-        ap (truthB n M 1 (high n M) ρ) z ∙ computed
+        ap (truthB n M 1 (value n M) ρ) z ∙ computed
       where
         zeros : (i : ℕ) → i < n → c .at i ≡ 0
         zeros zero l = e
         zeros (suc i) l = absurd (omega arith)
 
 -- and EG p is true in no state of the chain, for every state is FAIL
-pub guarded : (s : State n S) → Truth n S (high n S) ρ s → ⊥
+pub guarded : (s : State n S) → Truth n S (valueOf chainInstrument) ρ s → ⊥
 unfolding digit built
-guarded s h = T-not (truthB n S 1 (high n S) ρ x) (all-out 3 (λ x. not (truthB n S 1 (high n S) ρ x)) tt x (index-lt n sizes (s .at) (s .ok))) bit
+guarded s h = T-not (truthB n S 1 (valueOf chainInstrument) ρ x) (all-out 3 (λ x. not (truthB n S 1 (valueOf chainInstrument) ρ x)) tt x (index-lt n sizes (s .at) (s .ok))) bit
   where
     sizes : ℕ → ℕ
     sizes i = S i .states
@@ -96,8 +99,8 @@ guarded s h = T-not (truthB n S 1 (high n S) ρ x) (all-out 3 (λ x. not (truthB
     accepted : Accepted chainInstrument
     accepted = accepted-sound chainInstrument tt
 
-    bit : T (truthB n S 1 (high n S) ρ x)
-    bit = full-way n S 1 (accepted .well-formed) (high n S) (signals-local n S) ρ s .1 h
+    bit : T (truthB n S 1 (valueOf chainInstrument) ρ x)
+    bit = full-way n S 1 (accepted .well-formed) (valueOf chainInstrument) (value-local chainInstrument) ρ s .1 h
 
 -- 0 goes to 1, and 1 nowhere
 abbrev stuck : ℕ → Table
@@ -114,7 +117,7 @@ only (suc zero) (suc (suc y)) l k h = absurd (omega arith)
 only (suc (suc x)) y l k h = absurd (omega arith)
 
 -- with a dead end EX true would be computed in state 0, and no path starts there
-pub dead-end : (truthB 1 stuck 0 (high 1 stuck) (ex top) 0 ≡ true) × ((s : State 1 stuck) → Truth 1 stuck (high 1 stuck) (ex top) s → ⊥)
+pub dead-end : (truthB 1 stuck 0 (value 1 stuck) (ex top) 0 ≡ true) × ((s : State 1 stuck) → Truth 1 stuck (value 1 stuck) (ex top) s → ⊥)
 unfolding digit built
 dead-end = (
   computed-stuck,
@@ -124,7 +127,7 @@ dead-end = (
       omega arith,
 )
   where
-    computed-stuck : truthB 1 stuck 0 (high 1 stuck) (ex top) 0 ≡ true
+    computed-stuck : truthB 1 stuck 0 (value 1 stuck) (ex top) 0 ≡ true
     computed-stuck = refl
 
     step : (s u : State 1 stuck) → Step 1 stuck s u → (s .at 0 ≡ 0) × (u .at 0 ≡ 1)

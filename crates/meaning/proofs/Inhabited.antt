@@ -11,8 +11,9 @@ use native.Mathlib.Nat.{mod-lt}
 use native.Mathlib.Omega.{arith}
 use Prim.Native.Nat.{_%_, _+_, _<_, _≤_, suc, zero, ℕ}
 use Rattle.words.specs.Sets.{built, digit}
+use Rattle.meaning.specs.Atoms.{Atom, onSignal}
 use Rattle.meaning.specs.Classes.{ClassNames}
-use Rattle.meaning.specs.Combination.{State, Truth, high}
+use Rattle.meaning.specs.Combination.{State, Truth}
 use Rattle.meaning.specs.File.Grammar.{limits}
 use Rattle.meaning.specs.File.Promise.{componentAt}
 use Rattle.meaning.specs.Formula.{Formula}
@@ -23,10 +24,11 @@ use Rattle.meaning.specs.Nodes.{Beneath, Earlier, atom, formulaAt, of-eg
 use Rattle.meaning.specs.Paths.{IsPath}
 use Rattle.meaning.specs.Reference.Verdict.{rootClasses}
 use Rattle.meaning.specs.Relation.{Rel}
+use Rattle.meaning.specs.Seen.{value, valueOf, viewOf}
 use Rattle.meaning.specs.StepWords.{Steps}
 use Rattle.meaning.specs.Table.{Table, Total, owns}
 use Rattle.meaning.specs.Verdict.{Right, holds, judged, merged}
-use Rattle.meaning.specs.View.{View, wholeWords}
+use Rattle.meaning.specs.View.{View}
 use Rattle.meaning.proofs.Basic.Lists.{all-listed}
 use Rattle.meaning.proofs.Basic.Equivalence.{Equivalence}
 use Rattle.meaning.proofs.Claims.{Words, described-01, full-01, merged-state-01, verdict-01}
@@ -37,7 +39,7 @@ use Rattle.meaning.proofs.File.Formulas.{Under}
 use Rattle.meaning.proofs.File.Nodes.{beneath-under}
 use Rattle.meaning.proofs.Marks.Laws.{Fits, Lawful, Local, Shows, Sound}
 use Rattle.meaning.proofs.Marks.Partners.{computed-beside, other-partners}
-use Rattle.meaning.proofs.Marks.Signals.{whole-fit}
+use Rattle.meaning.proofs.Marks.Atoms.{view-fit}
 
 abbrev pub S : ℕ → Table
 S = table pairI
@@ -90,59 +92,59 @@ state-met = record { at = at (1 ∷ 0 ∷ []); ok = ok }
 abbrev pub start-state : (start : List ℕ) → IsStart pairI start → State 2 S
 start-state start h = record { at = at start; ok = h .1 }
 
-abbrev κ : ℕ → View ℕ
-κ i = wholeWords (S i)
+abbrev κ : ℕ → View Atom
+κ = viewOf pairI
 
-abbrev ρ : Formula ℕ
+abbrev ρ : Formula Atom
 ρ = rootFormula pairI
 
 abbrev cls : ℕ → ℕ → ℕ
 cls = rootClasses 2 S κ ρ
 
-pub fits-met : Fits 2 S (high 2 S) κ
-fits-met = whole-fit 2 S 2 well-formed-met
+pub fits-met : Fits 2 S (valueOf pairI) κ
+fits-met = view-fit pairI accepted-met
 
 pub lawful-met : Lawful (S 0) (κ 0)
 lawful-met = fits-met .lawful 0 (lit< tt)
 
-pub sound-met : Sound 2 S (high 2 S) 0 (κ 0)
+pub sound-met : Sound 2 S (valueOf pairI) 0 (κ 0)
 sound-met = fits-met .sound 0 (lit< tt)
 
-pub local-met : Local 2 (high 2 S)
+pub local-met : Local 2 (valueOf pairI)
 local-met = fits-met .local
 
 pub shows-met : Shows 2 S 0 (κ 0)
 shows-met = fits-met .shows 0 (lit< tt)
 
 pub equivalence-met : (i : ℕ) → i < 2 → Equivalence (S i) (Rel (S i) (κ i) ρ)
-equivalence-met = root-equivalence 2 S 2 well-formed-met (high 2 S) κ fits-met ρ
+equivalence-met = root-equivalence 2 S 2 well-formed-met (valueOf pairI) κ fits-met ρ
 
 pub names-met : (i : ℕ) → i < 2 → ClassNames (S i) (Rel (S i) (κ i) ρ) (cls i)
-names-met = root-class-names 2 S 2 well-formed-met (high 2 S) κ fits-met ρ
+names-met = root-class-names 2 S 2 well-formed-met (valueOf pairI) κ fits-met ρ
 
 pub under-met : Under (formulaAt (pairI .nodes) 0) ρ
 under-met = beneath-under (pairI .nodes) earlier-met 0 (rootNode pairI) beneath-met
 
-pub keeps-met : Keeps 2 S 2 well-formed-met (high 2 S) κ fits-met (λ i. Rel (S i) (κ i) ρ) equivalence-met cls names-met
+pub keeps-met : Keeps 2 S 2 well-formed-met (valueOf pairI) κ fits-met (λ i. Rel (S i) (κ i) ρ) equivalence-met cls names-met
     (formulaAt (pairI .nodes) 0)
-keeps-met = under-kept 2 S 2 well-formed-met (high 2 S) κ fits-met ρ (formulaAt (pairI .nodes) 0) under-met
+keeps-met = under-kept 2 S 2 well-formed-met (valueOf pairI) κ fits-met ρ (formulaAt (pairI .nodes) 0) under-met
 
 pub merged-of-met : (c : State 2 (mergedTables 2 S cls)) × MergedOf 2 S cls state-met c
 merged-of-met = merged-state-01 pairI accepted-met state-met
 
 -- ---- marks and truth: EG p is true at the pair's start, and EX p is PASS in state 0 of the chain and FAIL in state 1
-pub truth-met : Truth 2 S (high 2 S) ρ (start-state (0 ∷ 0 ∷ []) start-met)
+pub truth-met : Truth 2 S (valueOf pairI) ρ (start-state (0 ∷ 0 ∷ []) start-met)
 unfolding digit built
 truth-met = full-01 pairI accepted-met 1 (start-state (0 ∷ 0 ∷ []) start-met) .0 tt
 
 abbrev pub chain : Table
 chain = table chainI 0
 
-pub pass-met : Pass chain (wholeWords chain) (rootFormula chainI) 0
+pub pass-met : Pass chain (viewOf chainI 0) (rootFormula chainI) 0
 unfolding digit built
 pass-met = described-01 chainI chain-accepted 0 (lit< tt) .marks (rootFormula chainI) .0 .sound 0 (lit< tt) tt
 
-pub fail-met : Fail chain (wholeWords chain) (rootFormula chainI) 1
+pub fail-met : Fail chain (viewOf chainI 0) (rootFormula chainI) 1
 unfolding digit built
 fail-met = described-01 chainI chain-accepted 0 (lit< tt) .marks (rootFormula chainI) .1 .sound 1 (lit< tt) tt
 
@@ -154,12 +156,12 @@ pub path-met : IsPath (Move chain) (λ i. 2)
 unfolding digit
 path-met i = (0, lit< tt, (lit< tt, tt))
 
-pub words-met : Words (Fail chain (wholeWords chain) (Formula.atom 0)) (Fail chain (wholeWords chain) (Formula.atom 0)) (λ i. 2)
+pub words-met : Words (Fail chain (viewOf chainI 0) (Formula.atom (onSignal 0))) (Fail chain (viewOf chainI 0) (Formula.atom (onSignal 0))) (λ i. 2)
 unfolding digit
 words-met = inl (λ i. tt)
 
 -- a right answer
-pub right-met : Right 2 S κ ρ (Truth 2 S (high 2 S) ρ) (λ s. s) (start-state (0 ∷ 0 ∷ []) start-met ∷ []) (mergedCount 2 S cls ≤ 4096)
+pub right-met : Right 2 S κ ρ (Truth 2 S (valueOf pairI) ρ) (λ s. s) (start-state (0 ∷ 0 ∷ []) start-met ∷ []) (mergedCount 2 S cls ≤ 4096)
     (judged holds merged)
 unfolding digit built
 right-met = verdict-01 pairI accepted-met (start-state (0 ∷ 0 ∷ []) start-met ∷ [])
@@ -203,10 +205,10 @@ abbrev pub bench-state : (x : ℕ) → x < 3 → State 2 bench
 bench-state x l = record { at = at (99 ∷ x ∷ []); ok = bench-ok x l }
 
 -- so EX p is true beside it where the chain is in state 0, and false where that is in state 1
-pub bench-true : Truth 2 bench (high 2 bench) (rootFormula chainI) (bench-state 0 (lit< tt))
+pub bench-true : Truth 2 bench (value 2 bench) (rootFormula chainI) (bench-state 0 (lit< tt))
 unfolding digit built
 bench-true = computed-beside 2 bench 1 (lit< tt) chain-total bench-partners (chain .out) (rootFormula chainI) (bench-state 0 (lit< tt)) .0 tt
 
-pub bench-false : Truth 2 bench (high 2 bench) (rootFormula chainI) (bench-state 1 (lit< tt)) → ⊥
+pub bench-false : Truth 2 bench (value 2 bench) (rootFormula chainI) (bench-state 1 (lit< tt)) → ⊥
 unfolding digit built
 bench-false = computed-beside 2 bench 1 (lit< tt) chain-total bench-partners (chain .out) (rootFormula chainI) (bench-state 1 (lit< tt)) .1 tt

@@ -1,9 +1,11 @@
 pub mod Basic
+pub mod Rules
 pub mod File
 pub mod Meaning
 pub mod Marks
 pub mod Classes
 pub mod Merged
+pub mod Roots
 pub mod Verdict
 pub mod Demands
 pub mod Cases

@@ -1,9 +1,9 @@
--- Marks: tested, right whatever the partners, signals as atoms.
+-- Marks: tested, right whatever the partners, atoms that are lawful.
 pub mod Sets
 pub mod Paths
 pub mod Stays
 pub mod Decided
 pub mod Laws
 pub mod Sound
-pub mod Signals
+pub mod Atoms
 pub mod Partners

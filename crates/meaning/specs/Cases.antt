@@ -6,14 +6,16 @@ use lib.ListN.{getD, length}
 use lib.Dec.{T}
 use Prim.Native.Nat.{ℕ, _≤_, _<_}
 use Rattle.words.specs.Sets.{has}
+use Rattle.meaning.specs.Atoms.{Atom}
 use Rattle.meaning.specs.Tests.{All}
 use Rattle.meaning.specs.Table.{Table}
 use Rattle.meaning.specs.Nodes.{formulaAt, Beneath}
 use Rattle.meaning.specs.Instrument.{Instrument, components, table, rootNode, rootFormula, Accepted}
 use Rattle.meaning.specs.File.Parser.{Got, found, fault}
 use Rattle.meaning.specs.File.Grammar.{Contents, instrumentOf, readFile}
-use Rattle.meaning.specs.Combination.{State, high, Truth, count, index}
-use Rattle.meaning.specs.View.{View, wholeWords}
+use Rattle.meaning.specs.Combination.{State, Truth, count, index}
+use Rattle.meaning.specs.View.{View}
+use Rattle.meaning.specs.Seen.{valueOf, viewOf}
 use Rattle.meaning.specs.Marks.{Pass, Fail}
 use Rattle.meaning.specs.Relation.{Rel}
 use Rattle.meaning.specs.Classes.{ClassNames}
@@ -44,8 +46,8 @@ module _ (I : Instrument) where
   abbrev S : ℕ → Table
   S = table I
 
-  abbrev κ : ℕ → View ℕ
-  κ i = wholeWords (S i)
+  abbrev κ : ℕ → View Atom
+  κ = viewOf I
 
   abbrev sizes : ℕ → ℕ
   sizes i = S i .states
@@ -65,18 +67,18 @@ module _ (I : Instrument) where
   Means (classes i names) = (i < n) × (length names ≡ S i .states) × ClassNames (S i) (Rel (S i) (κ i) (rootFormula I)) (λ x. getD names x 0)
   Means (fullWords ws) =
       (length ws ≡ count n sizes)
-      × ((s : State n S) → WordOf (λ k. (k < length (I .nodes)) × Truth n S (high n S) (formulaAt (I .nodes) k) s) (getD ws (index n sizes (s .at)) 0))
+      × ((s : State n S) → WordOf (λ k. (k < length (I .nodes)) × Truth n S (valueOf I) (formulaAt (I .nodes) k) s) (getD ws (index n sizes (s .at)) 0))
   Means (mergedWords ws) =
       (cls : ℕ → ℕ → ℕ) × RootClasses cls × (length ws ≡ mergedCount n S cls)
       × ((c : State n (mergedTables n S cls))
-      → WordOf (λ k. Beneath (I .nodes) k (rootNode I) × MergedTruth n S cls κ (high n S) (formulaAt (I .nodes) k) c)
+      → WordOf (λ k. Beneath (I .nodes) k (rootNode I) × MergedTruth n S cls κ (valueOf I) (formulaAt (I .nodes) k) c)
       (getD ws (index n (mergedSizes n S cls) (c .at)) 0))
   Means (mergedOf start x) =
       (cls : ℕ → ℕ → ℕ) × RootClasses cls × ((s : State n S) → Writes start s → mergedIndex n S cls (s .at) ≡ x)
   Means (combinations m f) = (cls : ℕ → ℕ → ℕ) × RootClasses cls × (mergedCount n S cls ≡ m) × (count n sizes ≡ f)
   Means (verdict a) =
       (cls : ℕ → ℕ → ℕ) × RootClasses cls × (f : List ℕ → State n S) × All (λ start. Writes start (f start)) (I .starts)
-      × Right n S κ (rootFormula I) (Truth n S (high n S) (rootFormula I)) f (I .starts) (mergedCount n S cls ≤ 4096) a
+      × Right n S κ (rootFormula I) (Truth n S (valueOf I) (rootFormula I)) f (I .starts) (mergedCount n S cls ≤ 4096) a
 
 -- what a fact says of a file as it was read: the refusal, or an instrument that is as promised and has the fact
 abbrev pub Reads : Got Contents → Fact → Type 0

@@ -5,6 +5,7 @@ use mathlib.Core.List.{List, []}
 use lib.ListN.{length, getD}
 use lib.Dec.{T}
 use Prim.Native.Nat.{ℕ, _-_, _<_}
+use Rattle.meaning.specs.Atoms.{Atom, Set, onSignal}
 use Rattle.meaning.specs.Tests.{listed, All}
 use Rattle.meaning.specs.Table.{Table, owns, Total, fromWords}
 use Rattle.meaning.specs.Formula.{Formula}
@@ -14,9 +15,11 @@ pub record Instrument : Type 0 where
   -- signals are the numbers below this
   pub signals : ℕ
   pub tables : List Table
-  pub nodes : List (Node ℕ)
+  pub nodes : List (Node Atom)
   -- a start (document 01's term) is a combined state to judge: a state for each component, in order
   pub starts : List (List ℕ)
+  -- the named sets of combined states; an instrument file holds none
+  pub sets : List Set
 
 -- the number of components, and each one's table
 abbrev pub components : Instrument → ℕ
@@ -29,7 +32,7 @@ table I i = getD (I .tables) i (fromWords 0 [] [] [] [])
 abbrev pub rootNode : Instrument → ℕ
 rootNode I = length (I .nodes) - 1
 
-abbrev pub rootFormula : Instrument → Formula ℕ
+abbrev pub rootFormula : Instrument → Formula Atom
 rootFormula I = formulaAt (I .nodes) (rootNode I)
 
 -- n tables over the signals below W that work together
@@ -54,7 +57,7 @@ pub record Accepted (I : Instrument) : Type 0 where
   -- there is a root
   pub rooted : 0 < length (I .nodes)
   -- a component drives each signal that a node names
-  pub driven : (k w : ℕ) → nodeAt (I .nodes) k ≡ atom w → (i : ℕ) × (i < components I) × T (owns (table I i) w)
+  pub driven : (k w : ℕ) → nodeAt (I .nodes) k ≡ atom (onSignal w) → (i : ℕ) × (i < components I) × T (owns (table I i) w)
   pub starts : All (IsStart I) (I .starts)
 
 -- A partner of the table t (document 01, Marks): it has a state, moves on every assignment and drives none of t's outputs.

@@ -3,6 +3,7 @@ pub mod Tests
 -- The instrument file
 pub mod Table
 pub mod Formula
+pub mod Atoms
 pub mod Nodes
 pub mod Instrument
 pub mod File
@@ -11,6 +12,7 @@ pub mod Paths
 pub mod Combination
 -- Marks
 pub mod View
+pub mod Seen
 pub mod Marks
 -- Classes
 pub mod Relation
@@ -23,6 +25,8 @@ pub mod Verdict
 pub mod Cases
 -- The same as functions that compute; what they compute is proved to be the above.
 pub mod Reference
+-- Document 02: a list of roots
+pub mod Roots
 -- Cases of document 02
 pub mod WideCases
 -- The steps of one component as the engines are lent them

@@ -23,15 +23,19 @@ pub data Operand {A : Type 0} (k : ℕ) : Node A → Type 0 where
   of-eu-l : {j : ℕ} → Operand k (eu k j)
   of-eu-r : {j : ℕ} → Operand k (eu j k)
 
+-- the formula of a node, where g and f give the formulas of its atom and of its operands
+abbrev pub formulaWith : {A B : Type 0} → (A → Formula B) → Node A → (ℕ → Formula B) → Formula B
+formulaWith g top f = Formula.top
+formulaWith g (atom a) f = g a
+formulaWith g (neg i) f = Formula.neg (f i)
+formulaWith g (or i j) f = Formula.or (f i) (f j)
+formulaWith g (ex i) f = Formula.ex (f i)
+formulaWith g (eg i) f = Formula.eg (f i)
+formulaWith g (eu i j) f = Formula.eu (f i) (f j)
+
 -- the formula of a node, from its operands' formulas
 abbrev pub formulaOf : {A : Type 0} → Node A → (ℕ → Formula A) → Formula A
-formulaOf top f = Formula.top
-formulaOf (atom a) f = Formula.atom a
-formulaOf (neg i) f = Formula.neg (f i)
-formulaOf (or i j) f = Formula.or (f i) (f j)
-formulaOf (ex i) f = Formula.ex (f i)
-formulaOf (eg i) f = Formula.eg (f i)
-formulaOf (eu i j) f = Formula.eu (f i) (f j)
+formulaOf m f = formulaWith Formula.atom m f
 
 module _ {A : Type 0} (nodes : List (Node A)) where
   abbrev pub nodeAt : ℕ → Node A

@@ -9,3 +9,4 @@ pub mod Truth
 pub mod Merged
 pub mod Verdict
 pub mod Answers
+pub mod Rules

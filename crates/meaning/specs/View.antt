@@ -1,6 +1,7 @@
 -- What marks and relation take from outside a table's steps: the part of the outputs that is compared, and what a state says of an atom.
 use mathlib.Core.Bool.{Bool, not, _&&_, _||_, Bool·beq}
 use Prim.Native.Nat.{ℕ}
+use Rattle.meaning.specs.Atoms.{Atom, onSignal}
 use Rattle.meaning.specs.Table.{Table, owns, drives}
 
 pub record View (A : Type 0) : Type 0 where
@@ -11,17 +12,18 @@ pub record View (A : Type 0) : Type 0 where
   pub fail : A → ℕ → Bool
   pub related : A → ℕ → ℕ → Bool
 
--- Atoms that are signals (document 01, Marks and Classes). Of an own signal the states that drive it high are PASS and the rest FAIL, and
--- states that drive it to the same level are related; of a foreign signal no state is marked, and all are related.
-abbrev pub signals : (ℕ → ℕ) → Table → View ℕ
-signals compared t =
-    record {
-      compared = compared;
-      pass = λ w x. owns t w && drives t x w;
-      fail = λ w x. owns t w && not (drives t x w);
-      related = λ w x y. not (owns t w) || Bool·beq (drives t x w) (drives t y w);
-    }
+-- The atoms as a table sees them, where so much of a state's outputs is compared (document 01, Marks and Classes). Of an own signal the states
+-- that drive it high are PASS and the rest FAIL, and states that drive it to the same level are related; of a foreign signal no state is
+-- marked, and all are related.
+module _ (compared : ℕ → ℕ) (t : Table) where
+  abbrev atomPass : Atom → ℕ → Bool
+  atomPass (onSignal w) x = owns t w && drives t x w
 
--- document 01 compares whole output words
-abbrev pub wholeWords : Table → View ℕ
-wholeWords t = signals (t .out) t
+  abbrev atomFail : Atom → ℕ → Bool
+  atomFail (onSignal w) x = owns t w && not (drives t x w)
+
+  abbrev atomRelated : Atom → ℕ → ℕ → Bool
+  atomRelated (onSignal w) x y = not (owns t w) || Bool·beq (drives t x w) (drives t y w)
+
+  abbrev pub atoms : View Atom
+  atoms = record { compared = compared; pass = atomPass; fail = atomFail; related = atomRelated }

@@ -7,10 +7,13 @@ use lib.ListN.{length, getD}
 use native.Mathlib.Omega.{arith}
 use Prim.Native.Nat.{ℕ, zero, suc, _+_, _*_, _/_, _%_, _^_, _<_}
 use Rattle.words.specs.Sets.{has}
+use Rattle.meaning.specs.Atoms.{Atom, onSignal}
 use Rattle.meaning.specs.Tests.{anyBelow}
 use Rattle.meaning.specs.Table.{Table, assignments, owns, drives, reading}
 use Rattle.meaning.specs.Nodes.{Node, top, atom, neg, or, ex, eg, eu, nodeAt}
 use Rattle.meaning.specs.Combination.{high, count, index}
+use Rattle.meaning.specs.Seen.{value}
+use Rattle.meaning.proofs.Rules.{Keeps, node-keeps}
 use Rattle.meaning.specs.Reference.Tests.{shrink, grow}
 use Rattle.meaning.specs.Reference.Marks.{onB, canB, holdB, reachB}
 use Rattle.meaning.specs.Reference.Truth.{part, product}
@@ -18,7 +21,7 @@ use Rattle.meaning.proofs.Basic.Bounded.{Agree, any-same, all-same}
 use Rattle.meaning.proofs.File.Tables.{reading-lt, reading-same}
 use Rattle.meaning.proofs.Meaning.Index.{part-lt}
 use Rattle.labels.specs.Combined.{barredAt}
-use Rattle.node_truth.specs.Nodes.{nodeB, nodesB, truthOf, combinedB}
+use Rattle.node_truth.specs.Nodes.{truthRules, nodesB, truthOf, combinedB}
 use Rattle.merging.proofs.Tables.{Agreeing}
 
 -- rounds of operators that agree on sets that agree
@@ -58,28 +61,31 @@ module _ (t u : Table) (e : Agreeing t u) where
       (c d : ℕ → ℕ → Bool)
       (bars : (k : ℕ) → Agree (u .states) (c k) (d k))
     where
-      node-same : (k : ℕ) (m : Node A) (f g : ℕ → ℕ → Bool) → ((i : ℕ) → Agree (u .states) (f i) (g i))
-          → Agree (u .states) (nodeB t a c k m f) (nodeB u b d k m g)
-      node-same k top f g h x l = refl
-      node-same k (atom w) f g h x l = atoms w x l
-      node-same k (neg i) f g h x l = ap not (h i x l)
-      node-same k (or i j) f g h x l = ap₂ (λ p q. p || q) (h i x l) (h j x l)
-      node-same k (ex i) f g h x l = can-same (f i) (g i) (h i) x l
-      node-same k (eg i) f g h x l =
-          let p : ℕ → Bool = λ y. f i y && not (c k y) in
-          let q : ℕ → Bool = λ y. g i y && not (d k y) in
-          let s : Agree (u .states) p q = λ y z. ap₂ (λ v w. v && not w) (h i y z) (bars k y z) in
-          ap (λ n. shrink (holdB t p) n x) (e .states)
-          ∙ shrink-same (u .states) (holdB t p) (holdB u q) (hold-same p q s) (u .states) x l
-      node-same k (eu i j) f g h x l =
-          ap (λ n. grow (reachB t (f i) (f j)) n x) (e .states)
-          ∙ grow-same (u .states) (reachB t (f i) (f j)) (reachB u (g i) (g j)) (reach-same (f i) (g i) (h i) (f j) (g j) (h j)) (u .states) x l
+      -- the rules on the one and on the other keep to each other
+      rules-same : (k : ℕ) → Keeps (λ p q. Agree (u .states) p q) (truthRules t a c k) (truthRules u b d k)
+      rules-same k =
+          record {
+            top = λ x l. refl;
+            atom = atoms;
+            neg = λ p q h x l. ap not (h x l);
+            or = λ p p₂ q q₂ h j x l. ap₂ (λ v w. v || w) (h x l) (j x l);
+            ex = can-same;
+            eg = λ p q h x l.
+                let v : ℕ → Bool = λ y. p y && not (c k y) in
+                let w : ℕ → Bool = λ y. q y && not (d k y) in
+                let s : Agree (u .states) v w = λ y z. ap₂ (λ v w. v && not w) (h y z) (bars k y z) in
+                ap (λ n. shrink (holdB t v) n x) (e .states) ∙ shrink-same (u .states) (holdB t v) (holdB u w) (hold-same v w s) (u .states) x l;
+            eu = λ p p₂ q q₂ h j x l.
+                ap (λ n. grow (reachB t p p₂) n x) (e .states)
+                ∙ grow-same (u .states) (reachB t p p₂) (reachB u q q₂) (reach-same p q h p₂ q₂ j) (u .states) x l;
+          }
 
       module _ (nodes : List (Node A)) where
         nodes-same : (n k : ℕ) → Agree (u .states) (nodesB t a c nodes n k) (nodesB u b d nodes n k)
-        nodes-same zero k x l = refl
-        nodes-same (suc n) k x l =
-            node-same k (nodeAt nodes k) (nodesB t a c nodes n) (nodesB u b d nodes n) (nodes-same n) x l
+        nodes-same zero k = λ x l. refl
+        nodes-same (suc n) k =
+            node-keeps (λ p q. Agree (u .states) p q) (truthRules t a c k) (truthRules u b d k) (rules-same k) (nodesB t a c nodes n) (nodesB u b d nodes n)
+            (nodeAt nodes k) (λ i o. nodes-same n i)
 
         pub truth-same : (k : ℕ) → Agree (u .states) (truthOf t a c nodes k) (truthOf u b d nodes k)
         truth-same k = nodes-same (suc k) k
@@ -127,6 +133,9 @@ module _ (n : ℕ) (S U : ℕ → Table) (e : (i : ℕ) → i < n → Agreeing (
   pub high-same : (w x : ℕ) → high n S w (λ i. at i x) ≡ high n U w (λ i. at′ i x)
   high-same w x = any-same n (λ i. drives (S i) (at i x) w) (λ i. drives (U i) (at′ i x) w) (drives-same x w)
 
+  value-same : (a : Atom) (x : ℕ) → x < count n (λ i. U i .states) → value n S a (λ i. at i x) ≡ value n U a (λ i. at′ i x)
+  value-same (onSignal w) x l = high-same w x
+
   -- and a combined state is barred at the same nodes
   bars-same : (barred : ℕ → ℕ → ℕ) (k x : ℕ) → barredAt n (λ i. S i .states) barred k x ≡ barredAt n (λ i. U i .states) barred k x
   bars-same barred k x =
@@ -169,9 +178,9 @@ module _ (n : ℕ) (S U : ℕ → Table) (e : (i : ℕ) → i < n → Agreeing (
         }
 
     -- nodes are true in the same combined states
-    pub combined-same : (barred : ℕ → ℕ → ℕ) (nodes : List (Node ℕ)) (k x : ℕ) → x < count n (λ i. U i .states)
+    pub combined-same : (barred : ℕ → ℕ → ℕ) (nodes : List (Node Atom)) (k x : ℕ) → x < count n (λ i. U i .states)
         → combinedB n S W barred nodes k x ≡ combinedB n U W barred nodes k x
     combined-same barred nodes k x l =
-        truth-same (product n S W) (product n U W) product-agreeing (λ w x. high n S w (λ i. at i x)) (λ w x. high n U w (λ i. at′ i x))
-        (λ w x l. high-same w x) (barredAt n (λ i. S i .states) barred) (barredAt n (λ i. U i .states) barred)
+        truth-same (product n S W) (product n U W) product-agreeing (λ a x. value n S a (λ i. at i x)) (λ a x. value n U a (λ i. at′ i x))
+        value-same (barredAt n (λ i. S i .states) barred) (barredAt n (λ i. U i .states) barred)
         (λ k x l. bars-same barred k x) nodes k x l

@@ -5,11 +5,26 @@ use Prim.Native.Nat.{ℕ}
 use Rattle.meaning.specs.File.Parser.{Got, found, fault, on}
 use Rattle.parsing.specs.Stages.{mapped}
 
+-- what was found once is one thing
+pub found-same : {A : Type 0} {a b : A} {m n : ℕ} → found a m ≡ found b n → a ≡ b
+found-same h = cc
+
 module _ {A B : Type 0} where
   -- what follows matters only for what was found
   pub on-each : (g : Got A) (f f′ : A → ℕ → Got B) → ((a : A) (n : ℕ) → g ≡ found a n → f a n ≡ f′ a n) → on g f ≡ on g f′
   on-each (found a n) f f′ h = h a n refl
   on-each (fault r) f f′ h = refl
+
+  -- where what follows was found, so was what it follows
+  pub record First (g : Got A) (f : A → ℕ → Got B) (b : B) (end : ℕ) : Type 0 where
+    pub value : A
+    pub place : ℕ
+    pub is : g ≡ found value place
+    pub rest : f value place ≡ found b end
+
+  pub first-of : (g : Got A) (f : A → ℕ → Got B) (b : B) (end : ℕ) → on g f ≡ found b end → First g f b end
+  first-of (found a n) f b end q = record { value = a; place = n; is = refl; rest = q }
+  first-of (fault r) f b end q = let z : _≡_ {A = ℕ} 0 1 = cc in let y : ⊥ = omega arith in absurd y
 
   -- b was found at a place, from something of which it is the image
   pub record Was (f : A → B) (g : Got A) (b : B) (at : ℕ) : Type 0 where

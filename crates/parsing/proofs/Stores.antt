@@ -6,27 +6,13 @@ use lib.Seq.{sets}
 use native.Mathlib.Omega.{arith}
 use Prim.Native.Nat.{ℕ, _+_}
 use Rattle.words.specs.Sets.{insert}
-use Rattle.meaning.specs.File.Parser.{Got, found, fault}
 use Rattle.meaning.specs.File.Grammar.{withAll}
 use Rattle.meaning.proofs.File.Progress.{sets-more}
-use Rattle.parsing.specs.Steps.{Stored}
 
 -- the store of one turn
 pub store-more : {A : Type 0} (out out₀ : List A) (base i : ℕ) (l : List A) (v : A) → length l ≡ i → out ≡ sets out₀ base l
     → set out (base + i) v ≡ sets out₀ base (l ++ (v ∷ []))
 store-more out out₀ base i l v n h = rw (h, sym n) (sets-more out₀ base l v)
-
--- nothing is promised of what a refused list left behind
-pub stored-stop : {A : Type 0} (g : Got A) (list : A → List ℕ) (r base : ℕ) (l m : List ℕ) → g ≡ fault r → Stored g list base l m
-stored-stop g list r base l m e = record { all = λ a at q. (let z : _≡_ {A = ℕ} 0 1 = cc in let y : ⊥ = omega arith in absurd y) }
-
-pub stored-end : {A : Type 0} (g : Got A) (list : A → List ℕ) (b : A) (end base : ℕ) (l m : List ℕ) → g ≡ found b end
-    → m ≡ sets l base (list b) → Stored g list base l m
-stored-end g list b end base l m p h = record { all = λ a at q. (let z : b ≡ a = cc in h ∙ ap (λ a. sets l base (list a)) z) }
-
-pub stored-same : {A : Type 0} (g h : Got A) (list : A → List ℕ) (base : ℕ) (l m : List ℕ) → g ≡ h → Stored g list base l m
-    → Stored h list base l m
-stored-same g h list base l m e x = record { all = λ a at q. x .all a at (e ∙ q) }
 
 -- the set of the signals read so far
 pub with-none : (set : ℕ) → set ≡ withAll set []

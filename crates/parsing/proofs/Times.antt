@@ -2,14 +2,15 @@
 use mathlib.Core.Path.{_≡_, refl, sym, ap, _∙_}
 use mathlib.Core.List.{List, [], _∷_, _++_, append-assoc, append-nil}
 use Prim.Native.Nat.{ℕ, zero, suc}
+use Rattle.meaning.specs.Atoms.{Atom, Set}
 use Rattle.meaning.specs.Nodes.{Node}
 use Rattle.meaning.specs.File.Parser.{Got, found, fault, Parser, on, listOf}
 use Rattle.meaning.specs.File.Grammar.{Component, Contents}
 use Rattle.meaning.proofs.File.Lists.{list-none, list-more}
 use Rattle.parsing.specs.Stages.{mapped, Stage, times}
 
-abbrev pub contents : ℕ → List Component → List (Node ℕ) → List (List ℕ) → Contents
-contents W cs ns ss = record { signals = W; components = cs; nodes = ns; starts = ss }
+abbrev pub contents : List Set → ℕ → List Component → List (Node Atom) → List (List ℕ) → Contents
+contents ds W cs ns ss = record { signals = W; components = cs; nodes = ns; starts = ss; sets = ds }
 
 -- `all` has the contents with the things of a list, and a stage adds one thing to them.
 module _

@@ -13,7 +13,7 @@ abbrev pub Stage : Type 0
 Stage = Contents → Parser Contents
 
 -- so many things more
-abbrev pub times : ℕ → Stage → Stage
+abbrev pub times : {A : Type 0} → ℕ → (A → Parser A) → A → Parser A
 times zero stage k = give k
 times (suc n) stage k = do
   more ← stage k

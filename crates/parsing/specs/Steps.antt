@@ -6,7 +6,6 @@ use Prim.Native.Nat.{ℕ, _≤_}
 use Rattle.meaning.specs.File.Parser.{Got, found, fault, Done, done, on}
 use Rattle.meaning.specs.File.Grammar.{Contents, limits}
 use Rattle.cursor.specs.Answers.{number}
-use Rattle.cursor.specs.declared.Cursor.{Cursor}
 use Rattle.cursor.specs.declared.Refusal.{Refusal}
 use Rattle.instrument.specs.declared.Instrument.{Instrument}
 use Rattle.instrument.specs.Layout.{layout, nothing}
@@ -16,23 +15,34 @@ use Rattle.parsing.specs.declared.step.Step.{Step}
 use Rattle.parsing.specs.declared.lists.Moved.{Moved}
 use Rattle.parsing.specs.declared.lists.Moved.the-variants.{To, Stopped}
 use Rattle.parsing.specs.Stages.{mapped, Stage}
+use Rattle.parsing.specs.Faults.{whereFound}
 
 -- the place after a list
 abbrev pub moved : Moved → Got Done
 moved (To next) = found done (next .at)
 moved (Stopped r) = fault (number r)
 
--- what was found is stored from an index on, and nothing else is changed
-pub record Stored {A : Type 0} (g : Got A) (list : A → List ℕ) (base : ℕ) (before after : List ℕ) : Type 0 where
-  pub all : (a : A) (at : ℕ) → g ≡ found a at → after ≡ sets before base (list a)
+-- these are stored from an index on, and nothing else is changed
+abbrev pub Stored : List ℕ → ℕ → List ℕ → List ℕ → Type 0
+Stored vs base before after = after ≡ sets before base vs
+
+-- what is held with the place reached, or why it is refused
+abbrev pub reachedBy : {A : Type 0} → Outcome → ℕ → A → Got A
+reachedBy Accepted at a = found a at
+reachedBy (Refused r) at a = fault (number r)
+
+-- an outcome, a place and what is held are what was read: after a fault the place is 0 and `none` is held
+pub record Answers {A : Type 0} (none : A) (o : Outcome) (at : ℕ) (a : A) (g : Got A) : Type 0 where
+  pub told : reachedBy o at a ≡ g
+  pub place : at ≡ whereFound 0 g (λ a next. next)
+  pub held : a ≡ whereFound none g (λ a next. a)
 
 -- the instrument so far and the place reached
-abbrev pub reachedBy : Outcome → ℕ → Instrument → Got Instrument
-reachedBy Accepted at t = found t at
-reachedBy (Refused r) at t = fault (number r)
-
 abbrev pub reached : Step → Got Instrument
 reached p = reachedBy (p .outcome) (p .at) (p .instrument)
+
+abbrev pub Holds : Step → Got Instrument → Type 0
+Holds p g = Answers (layout nothing) (p .outcome) (p .at) (p .instrument) g
 
 abbrev pub stepAt : Outcome → ℕ → Instrument → Step
 stepAt o at t = record { outcome = o; at = at; instrument = t }
@@ -40,8 +50,13 @@ stepAt o at t = record { outcome = o; at = at; instrument = t }
 abbrev pub refusedStep : Refusal → Step
 refusedStep r = record { outcome = Refused r; at = 0; instrument = layout nothing }
 
-abbrev pub acceptedStep : Cursor → Instrument → Step
-acceptedStep next t = record { outcome = Accepted; at = next .at; instrument = t }
+-- a step as it is handed on: a refused one holds nothing
+abbrev pub settledBy : Outcome → Step → Step
+settledBy Accepted p = p
+settledBy (Refused r) p = refusedStep r
+
+abbrev pub settled : Step → Step
+settled p = settledBy (p .outcome) p
 
 -- p has the instrument of the contents that were found
 abbrev pub Laid : Step → Got Contents → Type 0

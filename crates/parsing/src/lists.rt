@@ -1,4 +1,4 @@
-// Lists of the file, stored in a lent array from an index on.
+// Lists of the file, stored in a lent array from an index on; of a refused list, the items before the fault.
 use cursor::Cursor;
 use cursor::Number;
 use cursor::Read;
@@ -13,6 +13,7 @@ ghost use Rattle.meaning.specs.File.Parser.{repeat, listOf, done};
 ghost use Rattle.meaning.specs.File.Grammar.{limits, between, signal, signals, startState, withAll};
 ghost use Rattle.cursor.specs.Answers.{got};
 ghost use Rattle.parsing.specs.Stages.{mapped};
+ghost use Rattle.parsing.specs.Faults.{signalsBefore, wordsBefore, startBefore};
 ghost use Rattle.parsing.specs.Steps.{Stored, moved};
 
 // The place after a list, or why it is refused.
@@ -57,7 +58,7 @@ pub fn signals(
 ) -> Read
     requires { ⌜ (w ≤ limits .signals) × (base + count ≤ length (now out)) ⌝ }
     ensures { λ r. ⌜ got r ≡ mapped (withAll known) (signals limits w taken count (now (file .entry)) (from .at)) ⌝ }
-    ensures { λ _. ⌜ Stored (signals limits w taken count (now (file .entry)) (from .at)) (λ vs. vs) base (now (out .entry)) (now (out .exit)) ⌝ }
+    ensures { λ _. ⌜ Stored (signalsBefore w taken count (now (file .entry)) (from .at)) base (now (out .entry)) (now (out .exit)) ⌝ }
 {
     let mut place = from;
     let mut low: u32 = 0;
@@ -92,7 +93,7 @@ pub fn words_between(
 ) -> Moved
     requires { ⌜ base + count ≤ length (now out) ⌝ }
     ensures { λ r. ⌜ moved r ≡ mapped (λ vs. done) (repeat (between limits lo hi 6) count (now (file .entry)) (from .at)) ⌝ }
-    ensures { λ _. ⌜ Stored (repeat (between limits lo hi 6) count (now (file .entry)) (from .at)) (λ vs. vs) base (now (out .entry)) (now (out .exit)) ⌝ }
+    ensures { λ _. ⌜ Stored (wordsBefore lo hi count (now (file .entry)) (from .at)) base (now (out .entry)) (now (out .exit)) ⌝ }
 {
     let mut place = from;
     let mut i: usize = 0;
@@ -123,7 +124,7 @@ pub fn sets_between(
 ) -> Moved
     requires { ⌜ base + count ≤ length (now out) ⌝ }
     ensures { λ r. ⌜ moved r ≡ mapped (λ vs. done) (repeat (between limits lo hi 6) count (now (file .entry)) (from .at)) ⌝ }
-    ensures { λ _. ⌜ Stored (repeat (between limits lo hi 6) count (now (file .entry)) (from .at)) (λ vs. vs) base (now (out .entry)) (now (out .exit)) ⌝ }
+    ensures { λ _. ⌜ Stored (wordsBefore lo hi count (now (file .entry)) (from .at)) base (now (out .entry)) (now (out .exit)) ⌝ }
 {
     let mut place = from;
     let mut i: usize = 0;
@@ -153,7 +154,7 @@ pub fn start(
 ) -> Moved
     requires { ⌜ (n ≤ limits .components) × (base + n ≤ length (now out)) ⌝ }
     ensures { λ r. ⌜ moved r ≡ mapped (λ vs. done) (listOf (startState limits sizes) (λ c v. c + 1) n 0 (now (file .entry)) (from .at)) ⌝ }
-    ensures { λ _. ⌜ Stored (listOf (startState limits sizes) (λ c v. c + 1) n 0 (now (file .entry)) (from .at)) (λ vs. vs) base (now (out .entry)) (now (out .exit)) ⌝ }
+    ensures { λ _. ⌜ Stored (startBefore sizes n (now (file .entry)) (from .at)) base (now (out .entry)) (now (out .exit)) ⌝ }
 {
     let mut place = from;
     let mut c: usize = 0;

@@ -1,17 +1,18 @@
--- The class names of one component are those of its relation at the root.
+-- The class names of one component are those of its relation at the roots.
 use mathlib.Core.Path.{_≡_, refl, sym, ap₂, _∙_}
 use mathlib.Core.Bool.{Bool, cond}
 use mathlib.Core.List.{List}
-use lib.ListN.{length}
 use native.Mathlib.Omega.{arith}
 use Prim.Native.Nat.{ℕ, zero, suc, _-_, _≤_, _<_}
+use Rattle.meaning.specs.Atoms.{Atom}
 use Rattle.meaning.specs.Table.{Table}
-use Rattle.meaning.specs.View.{View, wholeWords}
-use Rattle.meaning.specs.Nodes.{Node, formulaAt}
+use Rattle.meaning.specs.View.{View}
+use Rattle.meaning.specs.Formula.{Formula}
+use Rattle.meaning.specs.Seen.{viewOf}
+use Rattle.meaning.specs.Roots.{relAllB, rootFormulas}
 use Rattle.meaning.specs.Instrument as meaning
 use Rattle.meaning.specs.Instrument.{Accepted, components, table}
 use Rattle.meaning.specs.File.Grammar.{Contents, instrumentOf, limits, mostStates}
-use Rattle.meaning.specs.Reference.Relation.{relB}
 use Rattle.meaning.specs.Reference.Tests.{lowest}
 use Rattle.meaning.proofs.Basic.Bounded.{any-same}
 use Rattle.meaning.proofs.File.Accepted.{accepted}
@@ -25,8 +26,9 @@ use Rattle.class_names.specs.Names.{Inhabited, classNames}
 use Rattle.classes.proofs.Padded.{padded-same}
 use Rattle.classes.proofs.Rows.{rel-rows}
 use Rattle.class_names.proofs.Meaning.{inhabited}
-use Rattle.relations.specs.Relations.{formulaRelation, rootRelation}
-use Rattle.relations.proofs.Meaning.{related-equivalence, relation-decides}
+use Rattle.meaning.proofs.Roots.{at-equivalence}
+use Rattle.relations.specs.Relations.{rootsRelation}
+use Rattle.relations.proofs.Meaning.{relation-decides}
 use Rattle.partitions.specs.Classes.{tableClasses, componentClasses}
 use Rattle.partitions.proofs.Classes.{few-states}
 
@@ -36,16 +38,16 @@ lowest-same zero f g h = refl
 lowest-same (suc n) f g h =
     ap₂ (λ b z. cond b z n) (any-same n f g (λ i l. h i (omega arith))) (lowest-same n f g (λ i l. h i (omega arith)))
 
--- the names of the rows at the root
-pub root-names : (t : Table) (κ : View ℕ) (ns : List (Node ℕ)) → t .states ≤ mostStates
-    → classNames (formulaRelation t κ (formulaAt ns (length ns - 1))) (t .states) ≡ tableClasses t κ ns
+-- the names of the rows at the roots
+pub root-names : (t : Table) (κ : View Atom) (ρs : List (Formula Atom)) → t .states ≤ mostStates
+    → classNames (rows (t .states) (relAllB t κ ρs)) (t .states) ≡ tableClasses t κ ρs
 unfolding classNames tableClasses
-root-names t κ ns m =
+root-names t κ ρs m =
     padded-same mostStates (t .states) (λ x. lowest (t .states) (rel (rows (t .states) related) x)) (λ x. lowest (t .states) (related x)) m (λ x l.
     lowest-same (t .states) (rel (rows (t .states) related) x) (related x) (λ y k. rel-rows (t .states) related x y m l k))
   where
     related : ℕ → ℕ → Bool
-    related = relB t κ (formulaAt ns (length ns - 1))
+    related = relAllB t κ ρs
 
 module _
     {t : Instrument}
@@ -71,12 +73,13 @@ module _
     states-is = l .states-are ∙ sym (table-states t k d c)
 
     -- each state is related to a state, itself
-    pub root-inhabited : (r : List ℕ) → r ≡ rootRelation I c → Inhabited states r
-    root-inhabited r e =
-        rw (e, states-is) (inhabited (table I c) small (rootRelation I c) (related-equivalence I good c here) (relation-decides I good c here small))
+    pub root-inhabited : (roots r : List ℕ) → r ≡ rootsRelation I c roots → Inhabited states r
+    root-inhabited roots r e =
+        rw (e, states-is)
+        (inhabited (table I c) small (rootsRelation I c roots) (at-equivalence I good roots c here) (relation-decides I good roots c here small))
       where
         good : Accepted I
         good = accepted limits k (d .promised)
 
-    pub root-classes : (r : List ℕ) → r ≡ rootRelation I c → classNames r states ≡ componentClasses I c
-    root-classes r e = rw (e, states-is) (root-names (table I c) (wholeWords (table I c)) (k .nodes) small)
+    pub root-classes : (roots r : List ℕ) → r ≡ rootsRelation I c roots → classNames r states ≡ componentClasses I roots c
+    root-classes roots r e = rw (e, states-is) (root-names (table I c) (viewOf I c) (rootFormulas I roots) small)

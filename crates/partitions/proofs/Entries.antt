@@ -9,8 +9,11 @@ use native.Mathlib.Omega.{arith}
 use Prim.Native.Nat.{ℕ, zero, suc, _+_, _≤_, _<_}
 use Rattle.meaning.specs.Instrument.{Instrument, components, table}
 use Rattle.meaning.specs.File.Grammar.{Contents, instrumentOf}
-use Rattle.meaning.specs.Reference.Answers.{listBelow, joinBelow, entries, lentAfter, classesAt, classNames}
-use Rattle.meaning.proofs.Basic.Entries.{list-length, list-same, join-same, lent-sets}
+use Rattle.meaning.specs.Reference.Answers.{listBelow, joinBelow}
+use Rattle.meaning.specs.Roots.{classesAtRoots, rootsClassNames}
+use Rattle.answers.specs.Buffers.{entries, lentAfter}
+use Rattle.meaning.proofs.Basic.Entries.{list-length, list-same, join-same}
+use Rattle.answers.proofs.Buffers.{lent-sets}
 use Rattle.instrument.specs.declared.Instrument as stored
 use Rattle.instrument.specs.Described.{Describes}
 use Rattle.instrument.proofs.Tables.{table-count, table-states}
@@ -77,20 +80,20 @@ module _ (n : ℕ) (states : List ℕ) (names : List (List ℕ)) (out₀ : List 
   pub writing-end : (i place : ℕ) (out : List ℕ) → n ≡ i → Reached i place out → out ≡ sets out₀ 0 (joinBelow n part)
   writing-end i place out e w = written-end out₀ 0 n part i out e (w .written)
 
-module _ (t : stored.Instrument) (k : Contents) (d : Describes t k) where
+module _ (t : stored.Instrument) (k : Contents) (d : Describes t k) (roots : List ℕ) where
   abbrev I : Instrument
   I = instrumentOf k
 
-  names-same : (names : List (List ℕ)) → names ≡ classesOf I
-      → joinBelow (t .components) (λ i. namesIn (getD names i []) (getD (t .states) i 0)) ≡ classNames I
+  names-same : (names : List (List ℕ)) → names ≡ classesOf I roots
+      → joinBelow (t .components) (λ i. namesIn (getD names i []) (getD (t .states) i 0)) ≡ rootsClassNames I roots
   names-same names e =
       rw (e, ← table-count t k d)
-      (join-same (components I) (λ i. namesIn (getD (classesOf I) i []) (getD (t .states) i 0))
-      (λ i. listBelow (table I i .states) (classesAt I i)) (λ i l.
+      (join-same (components I) (λ i. namesIn (getD (classesOf I roots) i []) (getD (t .states) i 0))
+      (λ i. listBelow (table I i .states) (classesAtRoots I roots i)) (λ i l.
       rw (← table-states t k d i)
-      (list-same (table I i .states) (λ x. getD (getD (classesOf I) i []) x 0) (classesAt I i) (λ x h. described-name t k d i x l h))))
+      (list-same (table I i .states) (λ x. getD (getD (classesOf I roots) i []) x 0) (classesAtRoots I roots i) (λ x h. described-name t k d roots i x l h))))
 
-  pub names-written : (names : List (List ℕ)) → names ≡ classesOf I → (old : List ℕ) → stateSum t ≤ length old
+  pub names-written : (names : List (List ℕ)) → names ≡ classesOf I roots → (old : List ℕ) → stateSum t ≤ length old
       → sets old 0 (joinBelow (t .components) (λ i. namesIn (getD names i []) (getD (t .states) i 0)))
-      ≡ lentAfter (entries (classNames I)) old
-  names-written names e old h = rw (names-same names e) (lent-sets (classNames I) old (omega (arith, names-length t k d)))
+      ≡ lentAfter (entries (rootsClassNames I roots)) old
+  names-written names e old h = rw (names-same names e) (lent-sets (rootsClassNames I roots) old (omega (arith, names-length t k d roots)))

@@ -16,10 +16,10 @@ abbrev pub namesIn : List ℕ → ℕ → List ℕ
 namesIn row states = listBelow states (λ x. getD row x 0)
 
 -- the classes of the first i components are there
-pub record Naming (t : Instrument) (marks : List (List Mark)) (i : ℕ) (names : List (List ℕ)) : Type 0 where
+pub record Naming (t : Instrument) (marks : List (List Mark)) (roots : List ℕ) (i : ℕ) (names : List (List ℕ)) : Type 0 where
   pub reached : i ≤ t .components
   pub each : (k : Contents) → MarkedInstrument t marks k
-      → Written (replicate (limits .components) noNames) 0 (t .components) (λ i. componentClasses (instrumentOf k) i ∷ []) i names
+      → Written (replicate (limits .components) noNames) 0 (t .components) (λ i. componentClasses (instrumentOf k) roots i ∷ []) i names
 
 -- the names of the first i of n components are written, one component after the other, and the next place is known
 pub record Writing (n : ℕ) (states : List ℕ) (names : List (List ℕ)) (out₀ : List ℕ) (i place : ℕ) (out : List ℕ) : Type 0 where

@@ -9,7 +9,7 @@ use Rattle.meaning.specs.Verdict.{Verdict, Stage, holds, fails, marks, merged}
 use Rattle.meaning.specs.File.Parser.{Got, found, fault}
 use Rattle.meaning.specs.File.Stretches.{Stretch, located, startOf, endOf}
 use Rattle.meaning.proofs.File.Ended.{inside, short}
-use Rattle.meaning.specs.Reference.Answers.{Outcome, refused, entries, outcomeNumber}
+use Rattle.answers.specs.Buffers.{Outcome, refused, entries, outcomeNumber}
 use Rattle.cursor.specs.Answers.{number}
 use Rattle.cursor.specs.declared.Refusal.{Refusal}
 use Rattle.answers.specs.Outcomes.{outcomeCount, given, Judgement, bytesOf, componentBytes}

@@ -12,7 +12,8 @@ use Rattle.meaning.specs.File.Parser.{Got, found, fault}
 use Rattle.meaning.specs.File.Number.{choose}
 use Rattle.meaning.specs.File.Grammar.{Contents, instrumentOf, readFile, limits, allOuts, mostStates}
 use Rattle.meaning.specs.File.Promise.{Promised}
-use Rattle.meaning.specs.Reference.Answers.{Outcome, refused, entries, outcomeNumber, fitting, listBelow, joinBelow}
+use Rattle.meaning.specs.Reference.Answers.{listBelow, joinBelow}
+use Rattle.answers.specs.Buffers.{Outcome, refused, entries, outcomeNumber, fitting}
 use Rattle.meaning.specs.Reference.Answers.{fullCount, fullWord, passWord, failWord, markWords, classesAt, classNames, mergedSize, mergedWord}
 use Rattle.meaning.proofs.Basic.Entries.{list-length}
 use Rattle.meaning.proofs.File.Reads.{file-promised}

@@ -7,7 +7,7 @@ use Prim.Native.Nat.{ℕ, _+_, _-_, _*_, _/_, _%_, _^_}
 use Rattle.meaning.specs.Verdict.{Verdict, Stage, holds, fails, marks, merged}
 use Rattle.meaning.specs.File.Parser.{Got, found, fault}
 use Rattle.meaning.specs.File.Stretches.{Stretch}
-use Rattle.meaning.specs.Reference.Answers.{Outcome, refused, entries, lentAfter}
+use Rattle.answers.specs.Buffers.{Outcome, refused, entries, lentAfter}
 use Rattle.cursor.specs.Answers.{number}
 use Rattle.answers.specs.Outcomes.{Reply, given, denied, Judgement}
 use Rattle.entry_queries.specs.declared.Written.{Written}

@@ -11,8 +11,8 @@ use Rattle.cursor.specs.declared.Refusal.{Refusal}
 use Rattle.instrument.specs.declared.Instrument as code
 use Rattle.instrument.specs.Described.{Describes}
 use Rattle.merging.specs.Contents.{named}
-use Rattle.partitions.specs.Classes.{classesOf}
-use Rattle.merged_words.proofs.Tables.{size-named}
+use Rattle.partitions.specs.Classes.{rootClassesOf}
+use Rattle.root_words.proofs.LastNode.{root-named}
 use Rattle.report.specs.Report.{Listed}
 use Rattle.answers.specs.Outcomes.{Reply, denied, Judgement}
 use Rattle.answers.specs.Listing.{listed}
@@ -29,6 +29,6 @@ pub listed-same : (I : Instrument) (room : ℕ) {i j : Reply Judgement} {r : Wri
 listed-same I room {i} {j} {r} {old} {new} e a = subst (λ j. Answered (listed I room j) r old new) e a
 
 -- what the text is made from
-pub lines-listed : (t : code.Instrument) (k : Contents) → Describes t k → (names : List (List ℕ)) (m f : ℕ) → names ≡ classesOf (instrumentOf k)
+pub lines-listed : (t : code.Instrument) (k : Contents) → Describes t k → (names : List (List ℕ)) (m f : ℕ) → names ≡ rootClassesOf (instrumentOf k)
     → m ≡ mergedCount (components (instrumentOf k)) (table (instrumentOf k)) (named names) → f ≡ fullCount (instrumentOf k) → Listed t names m f k
-lines-listed t k d names m f e p q = record { describes = d; named = e; mergedIs = p ∙ size-named t k d names e; fullIs = q }
+lines-listed t k d names m f e p q = record { describes = d; named = e; mergedIs = p ∙ root-named t k d names e; fullIs = q }

@@ -14,10 +14,10 @@ ghost use mathlib.Core.List.{List};
 ghost use Prim.Native.Nat.{ℕ};
 ghost use lib.ListN.{length};
 ghost use Rattle.meaning.specs.File.Grammar.{Contents, instrumentOf};
-ghost use Rattle.meaning.specs.Reference.Answers.{fitting};
+ghost use Rattle.answers.specs.Buffers.{fitting};
 ghost use Rattle.instrument.specs.Described.{Describes};
 ghost use Rattle.instrument.specs.Outline.{whole};
-ghost use Rattle.partitions.specs.Classes.{classesOf};
+ghost use Rattle.partitions.specs.Classes.{rootClassesOf};
 ghost use Rattle.cursor.specs.Answers.{number};
 ghost use Rattle.text.specs.Texts.{textOf};
 ghost use Rattle.listing_lines.specs.Lines.{judgementFrom};
@@ -27,8 +27,8 @@ ghost use Rattle.entry_queries.specs.Written.{Answered};
 
 // The lines on the instrument of an accepted file, with the names of its classes, this verdict and stage: 13 alone.
 fn write_lines(t: Outline, names: AllNames, holds: bool, by_marks: bool, out: &mut [u8]) -> Written
-    requires { ⌜ ((nexts : List ℕ) × (k : Contents) × Describes (whole t nexts) k × (names ≡ classesOf (instrumentOf k))) ⌝ }
-    ensures { λ r. ⌜ ((nexts : List ℕ) (k : Contents) → Describes (whole t nexts) k → names ≡ classesOf (instrumentOf k) → Answered (fitting (length (now (out .entry))) (listingText (instrumentOf k) (judgementFrom holds «by_marks»))) r (now (out .entry)) (now (out .exit))) ⌝ }
+    requires { ⌜ ((nexts : List ℕ) × (k : Contents) × Describes (whole t nexts) k × (names ≡ rootClassesOf (instrumentOf k))) ⌝ }
+    ensures { λ r. ⌜ ((nexts : List ℕ) (k : Contents) → Describes (whole t nexts) k → names ≡ rootClassesOf (instrumentOf k) → Answered (fitting (length (now (out .entry))) (listingText (instrumentOf k) (judgementFrom holds «by_marks»))) r (now (out .entry)) (now (out .exit))) ⌝ }
 {
     let merged = merging::merged_count(t, names);
     let full = combination::combined_count(t);
@@ -47,7 +47,7 @@ fn write_listing(t: Outline, nexts: &[StateSet], out: &mut [u8]) -> Written
     ensures { λ r. ⌜ ((k : Contents) → Describes (whole t (now (nexts .entry))) k → Answered (listed (instrumentOf k) (length (now (out .entry))) (judgement (verdictOf (instrumentOf k)))) r (now (out .entry)) (now (out .exit))) ⌝ }
 {
     let marks = all_marks(t, nexts);
-    let names = partitions::marked_classes(t, nexts, marks);
+    let names = root_classes::root_classes(t, nexts, marks);
     match verdict::judge_prepared(t, nexts, marks, names) {
         Verdict::Oversized => Written::Refused(Refusal::MergedSize),
         Verdict::Marks(holds) => write_lines(t, names, holds, true, out),

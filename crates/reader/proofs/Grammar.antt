@@ -2,6 +2,7 @@
 use mathlib.Core.Path.{_≡_, ap, _∙_}
 use mathlib.Core.List.{List, [], map}
 use Prim.Native.Nat.{ℕ}
+use Rattle.meaning.specs.Atoms.{Atom}
 use Rattle.meaning.specs.Nodes.{Node}
 use Rattle.meaning.specs.File.Parser.{Got, found, on, repeat}
 use Rattle.meaning.specs.File.Grammar.{Component, Contents, limits, between, components, nodes, start, finished, whole, drivenBy, readFile}
@@ -17,28 +18,28 @@ use Rattle.reader.specs.Stages.{readEnd, readAll}
 
 module _ (file : List ℕ) where
   -- the file after the starts, after the nodes and after the components
-  ended : (W : ℕ) (cs : List Component) (ns : List (Node ℕ)) (at : ℕ)
-      → on (readStarts (contents W cs ns []) file at) (λ k at. readEnd k file at)
+  ended : (W : ℕ) (cs : List Component) (ns : List (Node Atom)) (at : ℕ)
+      → on (readStarts (contents [] W cs ns []) file at) (λ k at. readEnd k file at)
       ≡ on (between limits 0 (limits .starts) 3 file at)
       (λ m at. on (repeat (start limits (map (λ c. c .states) cs)) m file at)
-      (λ ss at. on (finished limits file at) (λ x at. found (contents W cs ns ss) at)))
+      (λ ss at. on (finished limits file at) (λ x at. found (contents [] W cs ns ss) at)))
   ended W cs ns at =
       on-assoc (between limits 0 (limits .starts) 3 file at) _ _
       ∙ on-each (between limits 0 (limits .starts) 3 file at) _ _
-      (λ m at e. ap (λ g. on g (λ k at. readEnd k file at)) (times-starts file m W cs ns at)
+      (λ m at e. ap (λ g. on g (λ k at. readEnd k file at)) (times-starts file m W [] cs ns at)
       ∙ on-assoc (repeat (start limits (map (λ c. c .states) cs)) m file at) _ _)
 
   formula : (W : ℕ) (cs : List Component) (at : ℕ)
-      → on (readNodes (contents W cs [] []) file at) (λ k at. on (readStarts k file at) (λ k at. readEnd k file at))
+      → on (readNodes (contents [] W cs [] []) file at) (λ k at. on (readStarts k file at) (λ k at. readEnd k file at))
       ≡ on (between limits 1 (limits .nodes) 3 file at)
       (λ c at. on (nodes limits W (drivenBy 0 cs) c file at)
       (λ ns at. on (between limits 0 (limits .starts) 3 file at)
       (λ m at. on (repeat (start limits (map (λ c. c .states) cs)) m file at)
-      (λ ss at. on (finished limits file at) (λ x at. found (contents W cs ns ss) at)))))
+      (λ ss at. on (finished limits file at) (λ x at. found (contents [] W cs ns ss) at)))))
   formula W cs at =
       on-assoc (between limits 1 (limits .nodes) 3 file at) _ _
       ∙ on-each (between limits 1 (limits .nodes) 3 file at) _ _
-      (λ c at e. ap (λ g. on g (λ k at. on (readStarts k file at) (λ k at. readEnd k file at))) (times-nodes file c W cs [] at)
+      (λ c at e. ap (λ g. on g (λ k at. on (readStarts k file at) (λ k at. readEnd k file at))) (times-nodes file c W [] cs [] at)
       ∙ on-assoc (nodes limits W (drivenBy 0 cs) c file at) _ _
       ∙ on-each (nodes limits W (drivenBy 0 cs) c file at) _ _ (λ ns at e. ended W cs ns at))
 

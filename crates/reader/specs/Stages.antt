@@ -1,5 +1,5 @@
 -- The whole file in the stages of the code. That they are the grammar's is proved in proofs/Grammar.
-use Rattle.meaning.specs.File.Parser.{Parser, on, _>>=_, _>>_, give}
+use Rattle.meaning.specs.File.Parser.{Parser, _>>=_, _>>_, give}
 use Rattle.meaning.specs.File.Grammar.{Contents, limits, finished}
 use Rattle.parsing.specs.Stages.{Stage}
 use Rattle.tables.specs.Stages.{readTables}

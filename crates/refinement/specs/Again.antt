@@ -26,10 +26,9 @@ sum (x ∷ xs) = x + sum xs
 unfoldable pub predecessorRows : ℕ → ℕ → List ℕ → List ℕ
 predecessorRows states inputs succ = rows states (λ v x. anyBelow (2 ^ inputs) (λ a. has (successorWord inputs succ x a) v))
 
--- w is the union of the sets f 0, f 1, .. below a, on the way to m
-pub record UnitedTo (n m : ℕ) (f : ℕ → ℕ) (w a : ℕ) : Type 0 where
-  pub bound : a ≤ m
-  pub word : w ≡ built n (λ v. anyBelow a (λ a. has (f a) v))
+-- the states below n that are in one of the first a of the sets f 0, f 1, ..
+abbrev pub unitedTo : ℕ → (ℕ → ℕ) → ℕ → ℕ
+unitedTo n f a = built n (λ v. anyBelow a (λ a. has (f a) v))
 
 -- both PASS, or both FAIL, of the node
 abbrev pub knownB : ℕ → ℕ → ℕ → ℕ → Bool

@@ -56,4 +56,4 @@ module _ (n : ℕ) (outputs outs : List ℕ) (w : ℕ) where
       ap (λ o. not o || Bool·beq (drives t x w) (drives t y w)) (sym none))
     where
       none : owns t w ≡ false
-      none = test-eq (listed outputs w) false (λ h. let (i, l, q) = listed-at outputs w h in u .none i (omega arith) q) (λ h. absurd h)
+      none = test-eq (listed outputs w) false (λ h. let (i, l, q) = listed-at outputs w h in u .each i (omega arith) q) (λ h. absurd h)

@@ -7,8 +7,10 @@ use native.Mathlib.Omega.{arith}
 use Prim.Native.Nat.{ℕ, _≤_}
 use Rattle.meaning.specs.File.Grammar.{Contents, instrumentOf, limits}
 use Rattle.meaning.specs.File.Promise.{Promised}
-use Rattle.meaning.specs.Reference.Answers.{listBelow, entries, lentAfter}
-use Rattle.meaning.proofs.Basic.Entries.{list-length, list-at, list-same, lent-sets}
+use Rattle.meaning.specs.Reference.Answers.{listBelow}
+use Rattle.answers.specs.Buffers.{entries, lentAfter}
+use Rattle.meaning.proofs.Basic.Entries.{list-length, list-at, list-same}
+use Rattle.answers.proofs.Buffers.{lent-sets}
 use Rattle.answers.specs.Outcomes.{Judgement}
 use Rattle.answers.specs.Listing.{listingText}
 use Rattle.instrument.proofs.Rows.{filled-at}

@@ -15,8 +15,8 @@ use Rattle.instrument.specs.declared.Instrument.{Instrument}
 use Rattle.instrument.specs.Described.{Describes}
 use Rattle.instrument.proofs.Bounds.{count-bounds, states-bounds}
 use Rattle.instrument.proofs.Tables.{table-count, table-states}
-use Rattle.partitions.specs.Classes.{classesOf}
-use Rattle.partitions.proofs.Classes.{described-name}
+use Rattle.partitions.specs.Classes.{rootClassesOf}
+use Rattle.partitions.proofs.Classes.{root-name}
 use Rattle.listing_lines.specs.Lines.{classLines}
 use Rattle.report.specs.Report.{Listed}
 use Rattle.listing_lines.proofs.Lengths.{classes-length}
@@ -29,16 +29,16 @@ module _ (t : Instrument) (k : Contents) (d : Describes t k) where
   pub described-few : (t .components ≤ limits .components) × ((i : ℕ) → i < t .components → getD (t .states) i 0 ≤ mostStates)
   described-few = (count-bounds t k d .1, λ i l. states-bounds t k d i l .1)
 
-  pub lines-same : (names : List (List ℕ)) → names ≡ classesOf I → classLines (t .components) (t .states) names ≡ listing.classLines I
+  pub lines-same : (names : List (List ℕ)) → names ≡ rootClassesOf I → classLines (t .components) (t .states) names ≡ listing.classLines I
   lines-same names e =
       rw (e, ← table-count t k d)
-      (join-same (components I) (λ i. classLine i (getD (t .states) i 0) (λ x. getD (getD (classesOf I) i []) x 0))
+      (join-same (components I) (λ i. classLine i (getD (t .states) i 0) (λ x. getD (getD (rootClassesOf I) i []) x 0))
       (λ i. classLine i (table I i .states) (classesAt I i)) (λ i l.
       rw (← table-states t k d i)
-      (line-same i (table I i .states) (λ x. getD (getD (classesOf I) i []) x 0) (classesAt I i) (λ x h. described-name t k d i x l h))))
+      (line-same i (table I i .states) (λ x. getD (getD (rootClassesOf I) i []) x 0) (classesAt I i) (λ x h. root-name t k d i x l h))))
 
   -- how long its class lines are at most
-  pub described-short : (names : List (List ℕ)) → names ≡ classesOf I
+  pub described-short : (names : List (List ℕ)) → names ≡ rootClassesOf I
       → length (classLines (t .components) (t .states) names) ≤ limits .components * (39 + 3 * mostStates)
   described-short names e = rw (lines-same names e) (classes-length k (d .promised))
 

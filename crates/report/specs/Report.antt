@@ -7,14 +7,14 @@ use Rattle.meaning.specs.File.Grammar.{Contents, instrumentOf}
 use Rattle.meaning.specs.Reference.Answers.{listBelow, fullCount, mergedSize}
 use Rattle.instrument.specs.declared.Instrument.{Instrument}
 use Rattle.instrument.specs.Described.{Describes}
-use Rattle.partitions.specs.Classes.{classesOf}
+use Rattle.partitions.specs.Classes.{rootClassesOf}
 use Rattle.text.specs.declared.Text.{Text}
 use Rattle.text.specs.Texts.{textOf}
 
 -- the instrument describes a file's contents; the names of its classes and both sizes are those of document 01
 pub record Listed (t : Instrument) (names : List (List ℕ)) (size full : ℕ) (k : Contents) : Type 0 where
   pub describes : Describes t k
-  pub named : names ≡ classesOf (instrumentOf k)
+  pub named : names ≡ rootClassesOf (instrumentOf k)
   pub mergedIs : size ≡ mergedSize (instrumentOf k)
   pub fullIs : full ≡ fullCount (instrumentOf k)
 

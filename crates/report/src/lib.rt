@@ -5,10 +5,10 @@ ghost use Prim.Native.Nat.{ℕ, _+_, _≤_};
 ghost use lib.ListN.{length};
 ghost use lib.Seq.{sets};
 ghost use Rattle.meaning.specs.File.Grammar.{Contents, instrumentOf};
-ghost use Rattle.meaning.specs.Reference.Answers.{entries, lentAfter};
+ghost use Rattle.answers.specs.Buffers.{entries, lentAfter};
 ghost use Rattle.instrument.specs.Described.{Describes};
 ghost use Rattle.instrument.specs.Outline.{whole};
-ghost use Rattle.partitions.specs.Classes.{classesOf};
+ghost use Rattle.partitions.specs.Classes.{rootClassesOf};
 ghost use Rattle.answers.specs.Listing.{classLines, listingText, refusalLine};
 ghost use Rattle.text.specs.Texts.{textOf};
 ghost use Rattle.listing_lines.specs.Lines.{judgementFrom};
@@ -43,8 +43,8 @@ pub fn listing_text(
 
 // The class names of every component alone.
 pub fn class_text(t: Outline, names: AllNames) -> Text
-    requires { ⌜ ((nexts : List ℕ) × (k : Contents) × Describes (whole t nexts) k × (names ≡ classesOf (instrumentOf k))) ⌝ }
-    ensures { λ r. ⌜ ((nexts : List ℕ) (k : Contents) → Describes (whole t nexts) k → names ≡ classesOf (instrumentOf k) → r ≡ textOf (classLines (instrumentOf k))) ⌝ }
+    requires { ⌜ ((nexts : List ℕ) × (k : Contents) × Describes (whole t nexts) k × (names ≡ rootClassesOf (instrumentOf k))) ⌝ }
+    ensures { λ r. ⌜ ((nexts : List ℕ) (k : Contents) → Describes (whole t nexts) k → names ≡ rootClassesOf (instrumentOf k) → r ≡ textOf (classLines (instrumentOf k))) ⌝ }
 {
     let mut bytes = [0u8; 2048];
     let states = t.states;

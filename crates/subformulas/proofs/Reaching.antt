@@ -1,115 +1,73 @@
--- One way down from the root finds it and the nodes under it: the start, one node, the end.
-use mathlib.Core.Path.{_≡_, refl, subst, ap}
+-- One way down from the roots finds them and the nodes under them: the start, one node, the end.
+use mathlib.Core.Path.{_≡_, subst}
 use mathlib.Core.Logic.{_⊎_, _↔_, inl, inr}
+use mathlib.Core.Option.{some}
 use mathlib.Core.List.{List}
 use lib.Dec.{T}
-use lib.ListN.{length}
+use lib.ListN.{length, getD}
 use lib.Pow.{pow-mono}
 use native.Mathlib.Decide.{ℕ-discrete}
 use native.Mathlib.Omega.{arith}
-use Prim.Native.Nat.{ℕ, zero, suc, _-_, _^_, _≤_, _<_}
-use Rattle.words.specs.Sets.{has, insert, built}
-use Rattle.words.proofs.Members.{has-none, has-insert, insert-iff, same-members}
+use Prim.Native.Nat.{ℕ, suc, _^_, _≤_, _<_}
+use Rattle.words.specs.Sets.{has}
+use Rattle.words.proofs.Members.{has-none, same-members}
 use Rattle.words.proofs.Built.{built-lt}
-use Rattle.meaning.specs.Nodes.{Node, top, atom, neg, or, ex, eg, eu, nodeAt, Operand, of-neg, of-or-l, of-or-r, of-ex, of-eg, of-eu-l, of-eu-r}
-use Rattle.meaning.specs.Nodes.{Beneath, through, Earlier}
+use Rattle.meaning.specs.Tests.{All, Any}
+use Rattle.meaning.specs.Atoms.{Atom}
+use Rattle.meaning.specs.Nodes.{Node, nodeAt, Operand, Beneath, through, Earlier}
+use Rattle.meaning.specs.File.Grammar.{withAll}
+use Rattle.meaning.specs.Reference.Nodes.{operands}
+use Rattle.meaning.specs.Roots.{underRootsB}
 use Rattle.meaning.proofs.Basic.Booleans.{test-eq}
-use Rattle.instrument.proofs.Nodes.{nodeBy}
-use Rattle.subformulas.specs.Under.{withOperands, Reaching}
-use Rattle.subformulas.proofs.Members.{beneath, beneath-operand, set-in, set-out}
-
--- which numbers are operands
-abbrev Among : Node ℕ → ℕ → Type 0
-Among top j = ⊥
-Among (atom w) j = ⊥
-Among (neg i) j = i ≡ j
-Among (or i k) j = (i ≡ j) ⊎ (k ≡ j)
-Among (ex i) j = i ≡ j
-Among (eg i) j = i ≡ j
-Among (eu i k) j = (i ≡ j) ⊎ (k ≡ j)
-
-operand-among : (m : Node ℕ) (j : ℕ) → Operand j m → Among m j
-operand-among m j of-neg = refl
-operand-among m j of-or-l = inl refl
-operand-among m j of-or-r = inr refl
-operand-among m j of-ex = refl
-operand-among m j of-eg = refl
-operand-among m j of-eu-l = inl refl
-operand-among m j of-eu-r = inr refl
-
-among-operand : (m : Node ℕ) (j : ℕ) → Among m j → Operand j m
-among-operand top j h = absurd h
-among-operand (atom w) j h = absurd h
-among-operand (neg i) j h = subst (λ j. Operand {A = ℕ} j (neg i)) h of-neg
-among-operand (or i k) j (inl h) = subst (λ j. Operand {A = ℕ} j (or i k)) h of-or-l
-among-operand (or i k) j (inr h) = subst (λ j. Operand {A = ℕ} j (or i k)) h of-or-r
-among-operand (ex i) j h = subst (λ j. Operand {A = ℕ} j (ex i)) h of-ex
-among-operand (eg i) j h = subst (λ j. Operand {A = ℕ} j (eg i)) h of-eg
-among-operand (eu i k) j (inl h) = subst (λ j. Operand {A = ℕ} j (eu i k)) h of-eu-l
-among-operand (eu i k) j (inr h) = subst (λ j. Operand {A = ℕ} j (eu i k)) h of-eu-r
-
--- a set and nothing, or two operands, besides
-nothing-more : (set j : ℕ) → T (has set j) ↔ (T (has set j) ⊎ ⊥)
-nothing-more set j = (λ h. inl h, λ h. elim h [ inl a ↦ a | inr b ↦ absurd b ])
-
-two-more : (set l r j : ℕ) → T (has (insert (insert set l) r) j) ↔ (T (has set j) ⊎ ((l ≡ j) ⊎ (r ≡ j)))
-two-more set l r j =
-    let a = insert-iff set l j in
-    let b = insert-iff (insert set l) r j in (
-      λ h. elim (b .0 h) [ inl p ↦ elim (a .0 p) [ inl q ↦ inl q | inr q ↦ inr (inl q) ] | inr p ↦ inr (inr p) ],
-      λ h. elim h [ inl p ↦ b .1 (inl (a .1 (inl p))) | inr p ↦ elim p [ inl q ↦ b .1 (inl (a .1 (inr q))) | inr q ↦ b .1 (inr q) ] ],
-    )
-
-among-more : (set kind l r j : ℕ) → T (has (withOperands set kind l r) j) ↔ (T (has set j) ⊎ Among (nodeBy kind l r) j)
-among-more set zero l r j = nothing-more set j
-among-more set (suc zero) l r j = nothing-more set j
-among-more set (suc (suc zero)) l r j = insert-iff set l j
-among-more set (suc (suc (suc zero))) l r j = two-more set l r j
-among-more set (suc (suc (suc (suc zero)))) l r j = insert-iff set l j
-among-more set (suc (suc (suc (suc (suc zero))))) l r j = insert-iff set l j
-among-more set (suc (suc (suc (suc (suc (suc zero)))))) l r j = two-more set l r j
-among-more set (suc (suc (suc (suc (suc (suc (suc k))))))) l r j = nothing-more set j
+use Rattle.meaning.proofs.Basic.Lists.{all-map, at-listed, listed-at, places-all}
+use Rattle.meaning.proofs.File.Driven.{with-all-listed, with-all-out, with-all-set}
+use Rattle.meaning.proofs.File.Nodes.{beneath-le, operand-listed}
+use Rattle.instrument.specs.declared.Node as stored
+use Rattle.instrument.specs.ByKind.{nodeIn}
+use Rattle.subformulas.specs.Under.{underRoots, withOperands, Reaching}
+use Rattle.subformulas.proofs.Members.{any-all, any-at, any-map, beneath-operand, set-in, set-out}
 
 -- a set and the operands of a node m besides
-pub operands-more : (set kind l r : ℕ) (m : Node ℕ) → m ≡ nodeBy kind l r → (j : ℕ)
-    → T (has (withOperands set kind l r) j) ↔ (T (has set j) ⊎ Operand j m)
-operands-more set kind l r m e j =
-    let a = among-more set kind l r j in
+pub operands-more : (set : ℕ) (n : stored.Node) (m : Node Atom) → nodeIn n ≡ some m → (j : ℕ)
+    → T (has (withOperands set n) j) ↔ (T (has set j) ⊎ Operand j m)
+operands-more set n m e j =
+    let l = operand-listed m j in
     rw e (
-      λ h. elim (a .0 h) [ inl p ↦ inl p | inr p ↦ inr (among-operand (nodeBy kind l r) j p) ],
-      λ h. elim h [ inl p ↦ a .1 (inl p) | inr p ↦ a .1 (inr (operand-among (nodeBy kind l r) j p)) ],
+      λ h. elim (with-all-out set (operands m) j h) [ inl p ↦ inl p | inr p ↦ inr (l .1 p) ],
+      λ h. elim h [ inl p ↦ with-all-set set (operands m) j p | inr p ↦ with-all-listed set (operands m) j (l .0 p) ],
     )
 
--- kinds that are not known add nothing
-pub unknown-more : (set kind l r : ℕ) → 7 ≤ kind → set ≡ withOperands set kind l r
-unknown-more set kind l r h =
-    let e : suc (suc (suc (suc (suc (suc (suc (kind - 7))))))) ≡ kind = omega arith in
-    ap (λ k. withOperands set k l r) e
+module _ (nodes : List (Node Atom)) (earlier : Earlier nodes) (roots : List ℕ) (each : All (λ r. r < length nodes) roots) where
+  abbrev Reached : ℕ → ℕ → Type 0
+  Reached k set = Reaching nodes roots k set
 
-module _ (nodes : List (Node ℕ)) (earlier : Earlier nodes) (root : ℕ) (last : length nodes ≡ suc root) where
-  pub reaching-start : Reaching nodes root (length nodes) (insert 0 root)
+  pub reaching-start : Reached (length nodes) (withAll 0 roots)
   reaching-start =
       record {
         reached = omega arith;
-        begun = has-insert 0 root;
-        under = λ j h. subst (λ j. Beneath nodes j root) (only j h) Beneath.itself;
-        closed = λ j i l h o. absurd (omega (arith, only j h));
+        begun = places-all (λ r. T (has (withAll 0 roots) r)) 0 roots (λ j l. with-all-listed 0 roots (getD roots j 0) (at-listed roots j l));
+        under = under;
+        closed = λ j i l h o. absurd (any-all (λ r b p. omega (arith, beneath-le nodes earlier j r b, p)) roots (under j h) each);
       }
     where
-      only : (j : ℕ) → T (has (insert 0 root) j) → root ≡ j
-      only j h = elim (insert-iff 0 root j .0 h) [ inl a ↦ absurd (subst T (has-none j) a) | inr e ↦ e ]
+      under : (j : ℕ) → T (has (withAll 0 roots) j) → Any (λ r. Beneath nodes j r) roots
+      under j h =
+          elim (with-all-out 0 roots j h) [
+            | inl a ↦ absurd (subst T (has-none j) a)
+            | inr a ↦ let (i, l, e) = listed-at roots j a in any-at (λ r. Beneath nodes j r) roots i l (rw e Beneath.itself)
+          ]
 
-  module _ (k set : ℕ) (some : 0 < k) (s : Reaching nodes root k set) where
+  module _ (k set : ℕ) (some : 0 < k) (s : Reached k set) where
     -- node k - 1 is in the set: its operands are put in
     pub reaching-in : (k₁ more : ℕ) → k ≡ suc k₁ → T (has set k₁)
-        → ((j : ℕ) → T (has more j) ↔ (T (has set j) ⊎ Operand j (nodeAt nodes k₁))) → Reaching nodes root k₁ more
+        → ((j : ℕ) → T (has more j) ↔ (T (has set j) ⊎ Operand j (nodeAt nodes k₁))) → Reached k₁ more
     reaching-in k₁ more e m iff =
         record {
           reached = omega (arith, s .reached);
-          begun = iff root .1 (inl (s .begun));
+          begun = all-map (λ r h. iff r .1 (inl h)) roots (s .begun);
           under =
               λ j h.
-              elim (iff j .0 h) [ inl a ↦ s .under j a | inr o ↦ beneath-operand nodes j k₁ root (s .under k₁ m) o ];
+              elim (iff j .0 h) [ inl a ↦ s .under j a | inr o ↦ any-map (λ r b. beneath-operand nodes j k₁ r b o) roots (s .under k₁ m) ];
           closed =
               λ j i l h o.
               elim (ℕ-discrete j k₁) [
@@ -123,7 +81,7 @@ module _ (nodes : List (Node ℕ)) (earlier : Earlier nodes) (root : ℕ) (last 
         }
 
     -- it is not: nothing changes
-    pub reaching-out : (k₁ : ℕ) → k ≡ suc k₁ → (T (has set k₁) → ⊥) → Reaching nodes root k₁ set
+    pub reaching-out : (k₁ : ℕ) → k ≡ suc k₁ → (T (has set k₁) → ⊥) → Reached k₁ set
     reaching-out k₁ e m =
         record {
           reached = omega (arith, s .reached);
@@ -137,19 +95,17 @@ module _ (nodes : List (Node ℕ)) (earlier : Earlier nodes) (root : ℕ) (last 
               ];
         }
 
-  -- a set that has the operands of all its members has all nodes under the root
-  all-under : (set : ℕ) → Reaching nodes root 0 set → (j k : ℕ) → Beneath nodes j k → T (has set k) → T (has set j)
+  -- a set that has the operands of all its members has all nodes under them
+  all-under : (set : ℕ) → Reached 0 set → (j k : ℕ) → Beneath nodes j k → T (has set k) → T (has set j)
   all-under set s j k Beneath.itself h = h
   all-under set s j k (through {i = i} o b) h = all-under set s j i b (s .closed k i (omega arith) h o)
 
-  pub reaching-end : (set : ℕ) → set < 2 ^ 32 → length nodes ≤ 32 → Reaching nodes root 0 set → set ≡ built (length nodes) (beneath nodes root)
+  pub reaching-end : (set : ℕ) → set < 2 ^ 32 → length nodes ≤ 32 → Reached 0 set → set ≡ underRoots nodes roots
+  unfolding underRoots
   reaching-end set small few s =
-      same-members 32 set under small wide (λ j l.
-      test-eq (has set j) (has under j) (λ h. set-in nodes earlier root last j (s .under j h)) (λ h.
-      all-under set s j root (set-out nodes root j h) (s .begun)))
+      same-members 32 set (underRoots nodes roots) small wide (λ j l.
+      test-eq (has set j) (has (underRoots nodes roots) j) (λ h. set-in nodes earlier roots each j (s .under j h)) (λ h.
+      any-all (λ r b p. all-under set s j r b p) roots (set-out nodes earlier roots each j h) (s .begun)))
     where
-      under : ℕ
-      under = built (length nodes) (beneath nodes root)
-
-      wide : under < 2 ^ 32
-      wide = omega (arith, built-lt (length nodes) (beneath nodes root), pow-mono few)
+      wide : underRoots nodes roots < 2 ^ 32
+      wide = omega (arith, built-lt (length nodes) (underRootsB nodes roots), pow-mono few)

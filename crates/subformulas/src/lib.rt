@@ -1,18 +1,21 @@
-// The nodes that a root needs: itself and the nodes under it, as a set, bit k for node k. specs/Under.antt defines the result.
+// The nodes that roots need: themselves and the nodes under them, as a set, bit k for node k. specs/Under.antt defines the result.
 ghost use mathlib.Core.Path.{_≡_};
 ghost use mathlib.Core.List.{List};
-ghost use Prim.Native.Nat.{ℕ, _<_};
+ghost use Rattle.meaning.specs.Atoms.{Atom};
 ghost use Rattle.meaning.specs.Nodes as formula;
-ghost use Rattle.meaning.specs.Instrument as meaning;
-ghost use Rattle.marks.specs.NodeMarks.{Operands, Listing};
-ghost use Rattle.subformulas.specs.Under.{underRoot, withOperands};
+ghost use Rattle.meaning.specs.File.Grammar.{limits, withAll};
+ghost use Rattle.instrument.specs.ByKind.{Operands};
+ghost use Rattle.instrument.specs.Roots.{GoodRoots, listedRoots};
+ghost use Rattle.marks.specs.NodeMarks.{Listing};
+ghost use Rattle.subformulas.specs.Under.{underRoots, withOperands};
 use instrument::Instrument;
 use instrument::Node;
+use instrument::Roots;
 
 // A set of nodes and the operands of a node besides: its kind says which it has.
 fn with_operands(set: u32, node: Node) -> u32
     requires { ⌜ Operands node ⌝ }
-    ensures { λ r. ⌜ r ≡ withOperands set (node .kind) (node .left) (node .right) ⌝ }
+    ensures { λ r. ⌜ r ≡ withOperands set node ⌝ }
 {
     let kind = node.kind;
     match kind {
@@ -27,13 +30,27 @@ fn with_operands(set: u32, node: Node) -> u32
     }
 }
 
-// Operands are earlier nodes, so one way down from the root, the last node, finds all nodes under it.
-pub fn under_root(nodes: [Node; Instrument::MAX_NODES], count: u32) -> u32
-    requires { ⌜ (0 < count) × ((ns : List (formula.Node ℕ)) × Listing nodes count ns) ⌝ }
-    ensures { λ r. ⌜ ((I : meaning.Instrument) → Listing nodes count (I .nodes) → r ≡ underRoot I) ⌝ }
+// The roots as a set.
+fn root_set(roots: Roots) -> u32
+    requires { ⌜ GoodRoots (limits .nodes) roots ⌝ }
+    ensures { λ r. ⌜ r ≡ withAll 0 (listedRoots roots) ⌝ }
+{
+    let mut set: u32 = 0;
+    let mut j: usize = 0;
+    while j < roots.count {
+        set = words::insert(set, roots.nodes[j]);
+        j += 1;
+    }
+    set
+}
+
+// Operands are earlier nodes, so one way down from the last node finds all nodes under the roots.
+pub fn under_roots(nodes: [Node; Instrument::MAX_NODES], count: u32, roots: Roots) -> u32
+    requires { ⌜ GoodRoots count roots × ((ns : List (formula.Node Atom)) × Listing nodes count ns) ⌝ }
+    ensures { λ r. ⌜ ((ns : List (formula.Node Atom)) → Listing nodes count ns → r ≡ underRoots ns (listedRoots roots)) ⌝ }
 {
     let mut k = count;
-    let mut set = words::insert(0, k - 1);
+    let mut set = root_set(roots);
     while k > 0 {
         k -= 1;
         let node = nodes[k as usize];

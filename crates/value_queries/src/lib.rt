@@ -19,7 +19,7 @@ ghost use Rattle.meaning.specs.Reference.Answers.{mergedSize};
 ghost use Rattle.instrument.specs.Described.{Describes};
 ghost use Rattle.instrument.specs.Outline.{whole};
 ghost use Rattle.merging.specs.Parts.{OfComponents};
-ghost use Rattle.merged_words.specs.Prepared.{Prepared};
+ghost use Rattle.root_words.specs.LastNode.{RootPrepared};
 ghost use Rattle.answers.specs.Outcomes.{Judgement, given, judgement, asksState, lookedUp, lookupOf, lookupReply, verdictOf, verdictReply};
 ghost use Rattle.answers.specs.Means.{Holds, LookupMeans, VerdictMeans};
 ghost use Rattle.value_queries.specs.Told.{lookedReply, judgedReply};
@@ -70,12 +70,12 @@ fn bit_of(
     names: AllNames,
     states: [usize; Instrument::MAX_COMPONENTS],
 ) -> bool
-    requires { ⌜ ((k : Contents) × Prepared (whole t (now nexts)) marks names k × (mergedSize (instrumentOf k) ≤ 4096)) × OfComponents (whole t (now nexts)) states ⌝ }
-    ensures { λ r. ⌜ ((k : Contents) → Prepared (whole t (now (nexts .entry))) marks names k → r ≡ lookedUp (instrumentOf k) states) ⌝ }
+    requires { ⌜ ((k : Contents) × RootPrepared (whole t (now nexts)) marks names k × (mergedSize (instrumentOf k) ≤ 4096)) × OfComponents (whole t (now nexts)) states ⌝ }
+    ensures { λ r. ⌜ ((k : Contents) → RootPrepared (whole t (now (nexts .entry))) marks names k → r ≡ lookedUp (instrumentOf k) states) ⌝ }
 {
     let mut merged = [0u32; 4096];
-    merged_words::write_merged(t, nexts, marks, names, &mut merged);
-    merged_words::root_bit(t, names, &merged, states)
+    root_words::write_root_words(t, nexts, marks, names, &mut merged);
+    root_words::root_bit(t, names, &merged, states)
 }
 
 // The lookup of a combined state on the instrument of an accepted file: 12 alone.
@@ -84,7 +84,7 @@ fn look_up(t: Outline, nexts: &[StateSet], states: [usize; Instrument::MAX_COMPO
     ensures { λ r. ⌜ ((k : Contents) → Describes (whole t (now (nexts .entry))) k → asksState (instrumentOf k) states ≡ Bool.true → lookedReply r ≡ lookupOf (instrumentOf k) states) ⌝ }
 {
     let marks = marks::nodes::all_marks(t, nexts);
-    let names = partitions::marked_classes(t, nexts, marks);
+    let names = root_classes::root_classes(t, nexts, marks);
     let n = merging::merged_count(t, names);
     if 4096 < n {
         return Looked::Refused(Refusal::MergedSize);

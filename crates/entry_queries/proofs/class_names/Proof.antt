@@ -2,7 +2,8 @@ use mathlib.Core.Path.{refl}
 use lib.ListN.{length}
 use borrow.Author.Needs.{needs}
 use Rattle.meaning.specs.File.Grammar.{instrumentOf}
-use Rattle.meaning.specs.Reference.Answers.{fitting, classNames}
+use Rattle.meaning.specs.Reference.Answers.{classNames}
+use Rattle.answers.specs.Buffers.{fitting}
 use Rattle.answers.specs.Outcomes.{classOutcome}
 use Rattle.answers.specs.Means.{ClassesMean}
 use Rattle.answers.proofs.Means.{class-means}
@@ -22,7 +23,7 @@ enum-told c = search needs
 write-named-requires : tie.Need-write-named-requires
 write-named-requires c κs =
     let m = c .before .before .before .before .before .before in
-    let h = m .read .ensures .1 (c .before .before .before .enum-told .given .1) in
+    let h = m .read .ensures .1 .0 (c .before .before .before .enum-told .given .1) in
     (h .contents, h .describes)
 
 returns : tie.Need-returns
@@ -43,7 +44,7 @@ returns-2 c =
     let m = w .before .before .before .before .before .before .before in
     let a = m .before .before .before .before .args in
     let old = a .out .now in
-    let h = m .read .ensures .1 (w .before .before .before .before .enum-told .given .1) in
+    let h = m .read .ensures .1 .0 (w .before .before .before .before .enum-told .given .1) in
     let I = instrumentOf (h .contents) in
     let answered = w .write-named .ensures (h .contents) (h .describes) in (
       file-answered (λ I. fitting (length old) (classNames I)) h answered,

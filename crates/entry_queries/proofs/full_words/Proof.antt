@@ -3,7 +3,8 @@ use lib.ListN.{length}
 use native.Mathlib.Omega.{arith}
 use borrow.Author.Needs.{needs}
 use Rattle.meaning.specs.File.Grammar.{instrumentOf}
-use Rattle.meaning.specs.Reference.Answers.{fitting, fullCount, fullWords}
+use Rattle.meaning.specs.Reference.Answers.{fullCount, fullWords}
+use Rattle.answers.specs.Buffers.{fitting}
 use Rattle.answers.specs.Outcomes.{fullOutcome, within}
 use Rattle.answers.specs.Means.{FullMeans}
 use Rattle.answers.proofs.Means.{full-means}
@@ -23,7 +24,7 @@ enum-told c = search needs
 write-full-requires : tie.Need-write-full-requires
 write-full-requires c κs =
     let m = c .before .before .before .before .before .before in
-    let h = m .read .ensures .1 (c .before .before .before .enum-told .given .1) in
+    let h = m .read .ensures .1 .0 (c .before .before .before .enum-told .given .1) in
     (h .contents, h .describes)
 
 returns : tie.Need-returns
@@ -44,7 +45,7 @@ returns-2 c =
     let m = w .before .before .before .before .before .before .before in
     let a = m .before .before .before .before .args in
     let old = a .out .now in
-    let h = m .read .ensures .1 (w .before .before .before .before .enum-told .given .1) in
+    let h = m .read .ensures .1 .0 (w .before .before .before .before .enum-told .given .1) in
     let I = instrumentOf (h .contents) in
     let answered = w .write-full .ensures (h .contents) (h .describes) in (
       file-answered (λ I. within (fullCount I) 11 (fitting (length old) (fullWords I))) h answered,

@@ -2,7 +2,8 @@ use mathlib.Core.Path.{refl}
 use lib.ListN.{length}
 use borrow.Author.Needs.{needs}
 use Rattle.meaning.specs.File.Grammar.{instrumentOf}
-use Rattle.meaning.specs.Reference.Answers.{fitting, markWords}
+use Rattle.meaning.specs.Reference.Answers.{markWords}
+use Rattle.answers.specs.Buffers.{fitting}
 use Rattle.answers.specs.Outcomes.{markOutcome}
 use Rattle.answers.specs.Means.{MarksMean}
 use Rattle.answers.proofs.Means.{marks-mean}
@@ -22,7 +23,7 @@ enum-told c = search needs
 write-marked-requires : tie.Need-write-marked-requires
 write-marked-requires c κs =
     let m = c .before .before .before .before .before .before in
-    let h = m .read .ensures .1 (c .before .before .before .enum-told .given .1) in
+    let h = m .read .ensures .1 .0 (c .before .before .before .enum-told .given .1) in
     (h .contents, h .describes)
 
 returns : tie.Need-returns
@@ -43,7 +44,7 @@ returns-2 c =
     let m = w .before .before .before .before .before .before .before in
     let a = m .before .before .before .before .args in
     let old = a .out .now in
-    let h = m .read .ensures .1 (w .before .before .before .before .enum-told .given .1) in
+    let h = m .read .ensures .1 .0 (w .before .before .before .before .enum-told .given .1) in
     let I = instrumentOf (h .contents) in
     let answered = w .write-marked .ensures (h .contents) (h .describes) in (
       file-answered (λ I. fitting (length old) (markWords I)) h answered,

@@ -3,7 +3,8 @@ use lib.ListN.{length}
 use native.Mathlib.Omega.{arith}
 use borrow.Author.Needs.{needs}
 use Rattle.meaning.specs.File.Grammar.{Contents, instrumentOf}
-use Rattle.meaning.specs.Reference.Answers.{entries, lentAfter, fitting, fullCount, fullWord, fullWords}
+use Rattle.meaning.specs.Reference.Answers.{fullCount, fullWord, fullWords}
+use Rattle.answers.specs.Buffers.{entries, lentAfter, fitting}
 use Rattle.meaning.proofs.Basic.Entries.{list-length}
 use Rattle.instrument.specs.Described.{Describes}
 use Rattle.instrument.specs.Outline.{whole}

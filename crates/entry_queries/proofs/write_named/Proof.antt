@@ -4,7 +4,7 @@ use borrow.Author.Needs.{needs}
 use Rattle.meaning.specs.File.Grammar.{instrumentOf}
 use Rattle.meaning.specs.Reference.Answers.{classNames}
 use Rattle.instrument.specs.Outline.{whole}
-use Rattle.partitions.proofs.Classes.{names-length}
+use Rattle.partitions.proofs.Classes.{root-length}
 use Rattle.entry_queries.proofs.Answering.{too-short, written}
 use Rattle.entry_queries.proofs.write_named.Statement.{statement}
 use Rattle.entry_queries.proofs.write_named.Tie as tie
@@ -17,10 +17,10 @@ returns c = λ k d.
     let m = c .before in
     let a = m .before .before .before .args in
     let t = whole (a .t) (a .nexts .now) in
-    too-short (classNames (instrumentOf k)) (a .out .now) (omega (arith, m .state-sum .ensures (a .nexts .now), names-length t k d))
+    too-short (classNames (instrumentOf k)) (a .out .now) (omega (arith, m .state-sum .ensures (a .nexts .now), root-length t k d))
 
-write-classes-requires : tie.Need-write-classes-requires
-write-classes-requires c κs =
+write-root-classes-requires : tie.Need-write-root-classes-requires
+write-root-classes-requires c κs =
     let m = c .before .before in
     let s = m .before .before .before in
     (s .pre, omega (arith, m .state-sum .ensures (s .args .nexts .now)))
@@ -33,10 +33,10 @@ returns-2 c = λ k d.
     let m = c .before .before .before .before .before in
     let a = m .before .before .before .args in
     let t = whole (a .t) (a .nexts .now) in
-    written (classNames (instrumentOf k)) (a .out .now) _ _ (m .state-sum .ensures (a .nexts .now) ∙ sym (names-length t k d))
-    (omega (arith, m .state-sum .ensures (a .nexts .now), names-length t k d)) (c .before .before .write-classes .ensures k d)
+    written (classNames (instrumentOf k)) (a .out .now) _ _ (m .state-sum .ensures (a .nexts .now) ∙ sym (root-length t k d))
+    (omega (arith, m .state-sum .ensures (a .nexts .now), root-length t k d)) (c .before .before .write-root-classes .ensures k d)
 
 pub write-named-spec : {M : Type 1} → statement M
 write-named-spec =
     tie.close
-    (tie.spec state-sum-requires returns write-classes-requires same-length returns-2)
+    (tie.spec state-sum-requires returns write-root-classes-requires same-length returns-2)

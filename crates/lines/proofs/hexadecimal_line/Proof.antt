@@ -22,9 +22,6 @@ Inv-loop bytes out₀ at₀ i₀ out at i = Appending (length bytes) (piece byte
 abbrev μ-loop : tie.MeasureT-loop
 μ-loop bytes out₀ at₀ i₀ out at i = length bytes - i
 
-loop-holds : tie.Need-loop-holds Inv-loop μ-loop
-loop-holds c = appending-start _ _ _ _
-
 byte-text-requires : tie.Need-byte-text-requires Inv-loop μ-loop
 byte-text-requires c κs =
     let l = c .before .before .before in
@@ -62,7 +59,7 @@ hexadecimal-line-spec =
     (tie.spec
     Inv-loop
     μ-loop
-    loop-holds
+    (λ c. appending-start _ _ _ _)
     (λ c. omega arith)
     byte-text-requires
     (λ c. omega arith)

@@ -15,9 +15,6 @@ Inv-loop nodes marks out₀ n at₀ j₀ out at j = Appending n (markLineAt node
 abbrev μ-loop : tie.MeasureT-loop
 μ-loop nodes marks out₀ n at₀ j₀ out at j = n - j
 
-loop-holds : tie.Need-loop-holds Inv-loop μ-loop
-loop-holds c = appending-start _ _ _ _
-
 mark-text-requires : tie.Need-mark-text-requires Inv-loop μ-loop
 mark-text-requires c κs =
     let l = c .before .before .before .before in
@@ -45,7 +42,7 @@ mark-lines-spec =
     (tie.spec
     Inv-loop
     μ-loop
-    loop-holds
+    (λ c. appending-start _ _ _ _)
     (λ c. search needs)
     (λ c. search needs)
     (λ c. omega arith)

@@ -22,9 +22,6 @@ Inv-loop words out₀ at₀ i₀ out at i = Appending (length words) (piece word
 abbrev μ-loop : tie.MeasureT-loop
 μ-loop words out₀ at₀ i₀ out at i = length words - i
 
-loop-holds : tie.Need-loop-holds Inv-loop μ-loop
-loop-holds c = appending-start _ _ _ _
-
 word-text-requires : tie.Need-word-text-requires Inv-loop μ-loop
 word-text-requires c κs =
     let l = c .before .before .before in
@@ -62,7 +59,7 @@ words-line-spec =
     (tie.spec
     Inv-loop
     μ-loop
-    loop-holds
+    (λ c. appending-start _ _ _ _)
     (λ c. omega arith)
     (λ c. omega arith)
     word-text-requires

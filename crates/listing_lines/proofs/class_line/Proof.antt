@@ -12,9 +12,6 @@ use Rattle.listing_lines.proofs.class_line.Tie as tie
 room : (s : tie.Start) → Room ((componentLabel ++ (decimal (s .args .c) ++ classesLabel)) ++ (namesText (s .args .names .now) ++ lineEnd)) (s .args .at) (s .args .out .now)
 room s = room-three componentLabel (decimal (s .args .c)) classesLabel (namesText (s .args .names .now) ++ lineEnd) (s .pre)
 
-numbered-requires : tie.Need-numbered-requires
-numbered-requires c κs = room-first _ _ (room (c .before .before .before .before .before))
-
 spaced-names-requires : tie.Need-spaced-names-requires
 spaced-names-requires c κs =
     let n = c .before .before .before in
@@ -38,7 +35,7 @@ class-line-spec =
     (tie.spec
     (λ c. search needs)
     (λ c. search needs)
-    numbered-requires
+    (λ c κs. room-first _ _ (room (c .before .before .before .before .before)))
     spaced-names-requires
     byte-requires
     (λ c. search needs)

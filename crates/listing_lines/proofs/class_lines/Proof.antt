@@ -18,9 +18,6 @@ Inv-loop components out₀ at states names next₀ c₀ out next c = Appending c
 abbrev μ-loop : tie.MeasureT-loop
 μ-loop components out₀ at states names next₀ c₀ out next c = components - c
 
-loop-holds : tie.Need-loop-holds Inv-loop μ-loop
-loop-holds c = appending-start _ _ _ _
-
 component-line-requires : tie.Need-component-line-requires Inv-loop μ-loop
 component-line-requires c κs =
     let l = c .before .before .before in
@@ -50,7 +47,7 @@ class-lines-spec =
     (tie.spec
     Inv-loop
     μ-loop
-    loop-holds
+    (λ c. appending-start _ _ _ _)
     (λ c. omega (arith, c .before .before .before .pre .0 .0))
     (λ c. omega (arith, c .before .before .before .pre .0 .0))
     (λ c. omega (arith, c .before .before .before .pre .0 .0))

@@ -11,9 +11,6 @@ use Rattle.listing_lines.proofs.size_line.Tie as tie
 room : (s : tie.Start) → Room ((mergedLabel ++ (decimal (s .args .merged) ++ ofLabel)) ++ (decimal (s .args .full) ++ lineEnd)) (s .args .at) (s .args .out .now)
 room s = room-three mergedLabel (decimal (s .args .merged)) ofLabel (decimal (s .args .full) ++ lineEnd) (s .pre)
 
-numbered-requires : tie.Need-numbered-requires
-numbered-requires c κs = room-first _ _ (room (c .before .before .before .before))
-
 decimal-requires : tie.Need-decimal-requires
 decimal-requires c κs =
     let n = c .before .before .before in
@@ -37,7 +34,7 @@ size-line-spec =
     (tie.spec
     (λ c. search needs)
     (λ c. search needs)
-    numbered-requires
+    (λ c κs. room-first _ _ (room (c .before .before .before .before)))
     decimal-requires
     byte-requires
     (λ c. search needs)

@@ -18,9 +18,6 @@ Inv-loop names out₀ at next₀ x₀ out next x = Appending (length names) (pie
 abbrev μ-loop : tie.MeasureT-loop
 μ-loop names out₀ at next₀ x₀ out next x = length names - x
 
-loop-holds : tie.Need-loop-holds Inv-loop μ-loop
-loop-holds c = appending-start _ _ _ _
-
 spaced-name-requires : tie.Need-spaced-name-requires Inv-loop μ-loop
 spaced-name-requires c κs =
     let l = c .before .before .before in
@@ -45,7 +42,7 @@ spaced-names-spec =
     (tie.spec
     Inv-loop
     μ-loop
-    loop-holds
+    (λ c. appending-start _ _ _ _)
     (λ c. omega arith)
     spaced-name-requires
     (λ c. omega arith)

@@ -1,15 +1,14 @@
--- Lists of entries (specs/Reference/Answers): how long they are and what stands in them; stores one after the other; what is left in a lent
--- buffer.
+-- Lists of entries (specs/Reference/Answers): how long they are and what stands in them; stores one after the other.
 use mathlib.Core.Path.{_≡_, refl, sym, subst, ap, ap₂, _∙_}
 use mathlib.Core.Logic.{inl, inr}
 use mathlib.Core.List.{List, [], _∷_, _++_}
-use lib.ListN.{length, getD, set, drop, length-append, List·getD-append}
-use lib.Seq.{sets, sets-eq, getD-at, getD-append-add}
+use lib.ListN.{length, getD, set, length-append, List·getD-append}
+use lib.Seq.{sets, getD-at, getD-append-add}
 use native.Mathlib.Decide.{decLt}
-use native.Mathlib.Nat.{add-zero, zero-add, mul-zero, mul-suc}
+use native.Mathlib.Nat.{add-zero, mul-zero, mul-suc}
 use native.Mathlib.Omega.{arith}
 use Prim.Native.Nat.{ℕ, zero, suc, _+_, _*_, _≤_, _<_}
-use Rattle.meaning.specs.Reference.Answers.{listBelow, joinBelow, entries, lentAfter}
+use Rattle.meaning.specs.Reference.Answers.{listBelow, joinBelow}
 use Rattle.meaning.proofs.Basic.Bounded.{last-or}
 
 -- lists joined one after the other, of whatever lengths
@@ -75,13 +74,3 @@ module _ {X : Type 0} where
   sets-append (v ∷ vs) ws l i =
       let e : suc i + length vs ≡ i + suc (length vs) = omega arith in
       sets-append vs ws (set l i v) (suc i) ∙ ap (λ k. sets (sets (set l i v) (suc i) vs) k ws) e
-
--- entries stored at the front of a lent buffer that has room for them
-pub lent-sets : (vs old : List ℕ) → length vs ≤ length old → sets old 0 vs ≡ lentAfter (entries vs) old
-lent-sets vs old h =
-    let e : 0 + length vs ≡ length vs = zero-add (length vs) in
-    rw e at (sets-eq vs old 0 (omega arith))
-
--- an entry that was written
-pub lent-at : (vs old : List ℕ) (x : ℕ) → x < length vs → getD (lentAfter (entries vs) old) x 0 ≡ getD vs x 0
-lent-at vs old x h = List·getD-append vs (drop (length vs) old) 0 x h

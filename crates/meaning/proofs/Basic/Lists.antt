@@ -49,6 +49,11 @@ all-places p [] h d j l = absurd (omega arith)
 all-places p (x ∷ xs) h d zero l = and-l (p x) (allOf p xs) h
 all-places p (x ∷ xs) h d (suc j) l = all-places p xs (and-r (p x) (allOf p xs) h) d j (omega arith)
 
+-- what holds at every place holds of all members
+pub places-all : {X : Type 0} (P : X → Type 0) (d : X) (xs : List X) → ((j : ℕ) → j < length xs → P (getD xs j d)) → All P xs
+places-all P d [] h = tt
+places-all P d (x ∷ xs) h = (h 0 (omega arith), places-all P d xs (λ j l. h (suc j) (omega arith)))
+
 -- a listed number has a place, and passes what all members pass
 pub listed-at : (zs : List ℕ) (w : ℕ) → T (listed zs w) → (j : ℕ) × (j < length zs) × (getD zs j 0 ≡ w)
 listed-at zs w h = let (j, l, e) = any-out (length zs) (λ j. eqb (getD zs j 0) w) h in (j, l, eqb→eq (getD zs j 0) w e)

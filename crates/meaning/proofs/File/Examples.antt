@@ -9,6 +9,7 @@ use Rattle.meaning.specs.File.Number.{groups}
 use Rattle.meaning.specs.File.Parser.{found, listOf}
 use Rattle.meaning.specs.File.Promise.{Promised}
 use Rattle.meaning.specs.Instrument.{Accepted, Instrument}
+use Rattle.meaning.specs.Atoms.{onSignal}
 use Rattle.meaning.specs.Nodes.{atom, eg, ex}
 use Rattle.meaning.proofs.File.Accepted.{file-accepted}
 use Rattle.meaning.proofs.File.Reads.{file-promised}
@@ -21,8 +22,9 @@ pairContents =
           record { states = 2; inputs = 1 ∷ []; outputs = 0 ∷ []; outs = 1 ∷ 0 ∷ []; nexts = 2 ∷ 1 ∷ 2 ∷ 2 ∷ [] }
           ∷ record { states = 2; inputs = []; outputs = 1 ∷ []; outs = 1 ∷ 0 ∷ []; nexts = 3 ∷ 2 ∷ [] }
           ∷ [];
-      nodes = atom 0 ∷ eg 0 ∷ [];
+      nodes = atom (onSignal 0) ∷ eg 0 ∷ [];
       starts = (0 ∷ 0 ∷ []) ∷ [];
+      sets = [];
     }
 
 abbrev pub chainContents : Contents
@@ -30,8 +32,9 @@ chainContents =
     record {
       signals = 1;
       components = record { states = 3; inputs = []; outputs = 0 ∷ []; outs = 1 ∷ 1 ∷ 0 ∷ []; nexts = 2 ∷ 4 ∷ 4 ∷ [] } ∷ [];
-      nodes = atom 0 ∷ ex 0 ∷ [];
+      nodes = atom (onSignal 0) ∷ ex 0 ∷ [];
       starts = (0 ∷ []) ∷ [];
+      sets = [];
     }
 
 pub pair-read : readFile (pair (1 ∷ 0 ∷ 0 ∷ [])) ≡ found pairContents 29

@@ -7,6 +7,7 @@ use lib.Dec.{T, leb, leb→le, ltb}
 use lib.ListN.{drop, length}
 use Prim.Native.Nat.{_%_, _+_, suc, zero, ℕ}
 use Rattle.words.specs.Sets.{has}
+use Rattle.meaning.specs.Atoms.{Atom, onSignal}
 use Rattle.meaning.specs.File.Grammar.{Limits, between, binary, component, components, drivenBy, earlier, finished, lessThan, limits}
 use Rattle.meaning.specs.File.Grammar.{named, node, number, operands, readFile, signal, signals, start, startState, unary, whole, withAll}
 use Rattle.meaning.specs.File.Number.{choose, groups, withHigher}
@@ -127,15 +128,15 @@ module _ (L : Limits) where
   faults-earlier : (k : ℕ) → Refuses (earlier L k)
   faults-earlier k = faults-less _ _ tt
 
-  faults-unary : (f : ℕ → Node ℕ) {operand : Parser ℕ} → Refuses operand → Refuses (unary L f operand)
+  faults-unary : (f : ℕ → Node Atom) {operand : Parser ℕ} → Refuses operand → Refuses (unary L f operand)
   faults-unary f h = faults-bind h (λ a. faults-give (f a))
 
-  faults-binary : (f : ℕ → ℕ → Node ℕ) (k : ℕ) → Refuses (binary L f k)
+  faults-binary : (f : ℕ → ℕ → Node Atom) (k : ℕ) → Refuses (binary L f k)
   faults-binary f k = faults-bind (faults-earlier k) (λ a. faults-bind (faults-earlier k) (λ b. faults-give (f a b)))
 
   faults-operands : (W driven k kind : ℕ) → Refuses (operands L W driven k kind)
   faults-operands W driven k zero = faults-give top
-  faults-operands W driven k (suc zero) = faults-unary atom (faults-named W driven)
+  faults-operands W driven k (suc zero) = faults-unary (λ w. atom (onSignal w)) (faults-named W driven)
   faults-operands W driven k (suc (suc zero)) = faults-unary neg (faults-earlier k)
   faults-operands W driven k (suc (suc (suc zero))) = faults-binary or k
   faults-operands W driven k (suc (suc (suc (suc zero)))) = faults-unary ex (faults-earlier k)

@@ -13,6 +13,7 @@ use native.Mathlib.Omega.{arith}
 use Prim.Native.Nat.{_*_, _+_, _-_, _/_, _<_, _^_, _≤_, max, suc, zero, ℕ}
 use Rattle.words.proofs.Members.{has-insert, has-none, insert-in, insert-out}
 use Rattle.words.specs.Sets.{has, insert}
+use Rattle.meaning.specs.Atoms.{Atom, onSignal}
 use Rattle.meaning.specs.File.Grammar.{Component, Contents, Limits, limits, readFile, whole, withAll}
 use Rattle.meaning.specs.File.Parser.{found}
 use Rattle.meaning.specs.File.Promise.{Promised, PromisedComponent, Signals, componentAt, longestFile, noComponent}
@@ -213,9 +214,9 @@ module _ (L : Limits) where
   longestOperands = max (2 * num (L .nodes)) (num (L .signals))
 
   module _ (k : ℕ) (small : k ≤ L .nodes) where
-    node-le : (m : Node ℕ) → ((i : ℕ) → Operand i m → i < k) → ((w : ℕ) → m ≡ atom w → w < L .signals) → nodeSize L m ≤ 1 + longestOperands
+    node-le : (m : Node Atom) → ((i : ℕ) → Operand i m → i < k) → ((w : ℕ) → m ≡ atom (onSignal w) → w < L .signals) → nodeSize L m ≤ 1 + longestOperands
     node-le top e n = omega arith
-    node-le (atom w) e n = let l = n w refl in omega (arith, num-le w (L .signals) (omega arith))
+    node-le (atom (onSignal w)) e n = let l = n w refl in omega (arith, num-le w (L .signals) (omega arith))
     node-le (neg i) e n = let l = e i of-neg in omega (arith, num-le i (L .nodes) (omega arith))
     node-le (or i j) e n =
         let l = e i of-or-l in let r = e j of-or-r in omega (arith, num-le i (L .nodes) (omega arith), num-le j (L .nodes) (omega arith))
@@ -224,9 +225,9 @@ module _ (L : Limits) where
     node-le (eu i j) e n =
         let l = e i of-eu-l in let r = e j of-eu-r in omega (arith, num-le i (L .nodes) (omega arith), num-le j (L .nodes) (omega arith))
 
-  first-le : (m : Node ℕ) → ((i : ℕ) → Operand i m → i < 0) → ((w : ℕ) → m ≡ atom w → w < L .signals) → nodeSize L m ≤ 1 + num (L .signals)
+  first-le : (m : Node Atom) → ((i : ℕ) → Operand i m → i < 0) → ((w : ℕ) → m ≡ atom (onSignal w) → w < L .signals) → nodeSize L m ≤ 1 + num (L .signals)
   first-le top e n = omega arith
-  first-le (atom w) e n = let l = n w refl in omega (arith, num-le w (L .signals) (omega arith))
+  first-le (atom (onSignal w)) e n = let l = n w refl in omega (arith, num-le w (L .signals) (omega arith))
   first-le (neg i) e n = absurd (omega (arith, e i of-neg))
   first-le (or i j) e n = absurd (omega (arith, e i of-or-l))
   first-le (ex i) e n = absurd (omega (arith, e i of-ex))
@@ -236,7 +237,7 @@ module _ (L : Limits) where
   abbrev pub longestNodes : ℕ
   longestNodes = 1 + num (L .signals) + (L .nodes - 1) * (1 + longestOperands)
 
-  nodes-le : (ns : List (Node ℕ)) → 1 ≤ length ns → length ns ≤ L .nodes → Earlier ns → ((k w : ℕ) → nodeAt ns k ≡ atom w → w < L .signals)
+  nodes-le : (ns : List (Node Atom)) → 1 ≤ length ns → length ns ≤ L .nodes → Earlier ns → ((k w : ℕ) → nodeAt ns k ≡ atom (onSignal w) → w < L .signals)
       → total (nodeSize L) ns ≤ longestNodes
   nodes-le [] l k e n = absurd (omega arith)
   nodes-le (m ∷ ms) l k e n =
@@ -267,7 +268,7 @@ module _ (L : Limits) where
         )
 
     -- a signal that a node names is one of the file's
-    named-below : (k w : ℕ) → nodeAt (c .nodes) k ≡ atom w → w < L .signals
+    named-below : (k w : ℕ) → nodeAt (c .nodes) k ≡ atom (onSignal w) → w < L .signals
     named-below k w e =
         let (i, l, o) = p .named k w e in
         let q = promised-at L c p i l in

@@ -8,6 +8,7 @@ use lib.ListN.{getD, length, replicate}
 use native.Mathlib.Omega.{arith}
 use Prim.Native.Nat.{_+_, _-_, _<_, _^_, suc, ℕ}
 use Rattle.words.specs.Sets.{digit, insert}
+use Rattle.meaning.specs.Atoms.{Atom, onSignal}
 use Rattle.meaning.specs.File.Grammar.{Component, Contents, between, component, components, drivenBy, earlier, finished, limits, mostNexts, mostStates}
 use Rattle.meaning.specs.File.Grammar.{node, nodes, number, readFile, signals, start, startState, whole, withAll}
 use Rattle.meaning.specs.File.Number.{groups}
@@ -91,15 +92,15 @@ wrote-components =
     (wrote-none (component limits 12) _ _))))
 
 -- ---- nodes: signal 0, then `or` of node 0 with itself
-abbrev longNodes : List (Node ℕ)
-longNodes = atom 0 ∷ replicate 23 (or 0 0)
+abbrev longNodes : List (Node Atom)
+longNodes = atom (onSignal 0) ∷ replicate 23 (or 0 0)
 
 abbrev nodesBytes : List ℕ
 nodesBytes = (1 ∷ 0 ∷ []) ++ copies 23 (3 ∷ 0 ∷ 0 ∷ [])
 
-wrote-first : Wrote (node limits 12 (drivenBy 0 longComponents) 0) (1 ∷ 0 ∷ []) (atom 0)
+wrote-first : Wrote (node limits 12 (drivenBy 0 longComponents) 0) (1 ∷ 0 ∷ []) (atom (onSignal 0))
 unfolding node digit insert withAll
-wrote-first = wrote-bind _ (wrote-byte 1 (omega arith)) (wrote-map atom (wrote-named limits _ _ refl (wrote-byte 0 (omega arith))))
+wrote-first = wrote-bind _ (wrote-byte 1 (omega arith)) (wrote-map (λ w. atom (onSignal w)) (wrote-named limits _ _ refl (wrote-byte 0 (omega arith))))
 
 wrote-or : (driven k : ℕ) → 0 < k → Wrote (node limits 12 driven k) (3 ∷ 0 ∷ 0 ∷ []) (or 0 0)
 unfolding node
@@ -140,7 +141,7 @@ longestBytes =
     (4 ∷ []) ++ ((12 ∷ []) ++ (componentsBytes ++ ((24 ∷ []) ++ (nodesBytes ++ ((64 ∷ []) ++ (copies 64 (0 ∷ 0 ∷ 0 ∷ 0 ∷ []) ++ []))))))
 
 abbrev pub longestContents : Contents
-longestContents = record { signals = 12; components = longComponents; nodes = longNodes; starts = replicate 64 (0 ∷ 0 ∷ 0 ∷ 0 ∷ []) }
+longestContents = record { signals = 12; components = longComponents; nodes = longNodes; starts = replicate 64 (0 ∷ 0 ∷ 0 ∷ 0 ∷ []); sets = [] }
 
 end-of-file : Ends (λ file at. on (finished limits file at) (λ d n. found longestContents n)) [] longestContents
 end-of-file =

@@ -8,6 +8,7 @@ use native.Mathlib.Decide.{decLt}
 use native.Mathlib.Omega.{arith}
 use Prim.Native.Nat.{_*_, _+_, _<_, _≤_, suc, zero, ℕ}
 use Rattle.words.specs.Sets.{has}
+use Rattle.meaning.specs.Atoms.{Atom, onSignal}
 use Rattle.meaning.specs.File.Grammar.{Limits, binary, earlier, node, nodes, operands as nodeOf, unary}
 use Rattle.meaning.specs.File.Parser.{Parser}
 use Rattle.meaning.specs.Nodes.{Earlier, Node, atom, eg, eu, ex, neg, nodeAt, or, top}
@@ -21,9 +22,9 @@ use Rattle.meaning.proofs.File.Numbers.{reads-less, reads-named, reads-
 use Rattle.meaning.proofs.File.Parsers.{Reads, reads-bind, reads-give, reads-list, weaker}
 
 -- the signal that the node names, if it names one, is in the set
-abbrev pub Named : ℕ → Node ℕ → Type 0
+abbrev pub Named : ℕ → Node Atom → Type 0
 Named driven top = Unit {0}
-Named driven (atom w) = T (has driven w)
+Named driven (atom (onSignal w)) = T (has driven w)
 Named driven (neg i) = Unit {0}
 Named driven (or i j) = Unit {0}
 Named driven (ex i) = Unit {0}
@@ -31,14 +32,14 @@ Named driven (eg i) = Unit {0}
 Named driven (eu i j) = Unit {0}
 
 -- node k as it was read, and all nodes
-pub record NodeRead (driven k : ℕ) (m : Node ℕ) : Type 0 where
+pub record NodeRead (driven k : ℕ) (m : Node Atom) : Type 0 where
   pub before : T (allOf (λ i. ltb i k) (operands m))
   pub names : Named driven m
 
-pub record NodesRead (driven n : ℕ) (ns : List (Node ℕ)) : Type 0 where
+pub record NodesRead (driven n : ℕ) (ns : List (Node Atom)) : Type 0 where
   pub long : length ns ≡ n
   pub earlier : Earlier ns
-  pub names : (k w : ℕ) → nodeAt ns k ≡ atom w → T (has driven w)
+  pub names : (k w : ℕ) → nodeAt ns k ≡ atom (onSignal w) → T (has driven w)
 
 -- one operand, and two
 one : (i k : ℕ) → i < k → T (ltb i k && true)
@@ -52,12 +53,12 @@ module _ (L : Limits) (W driven : ℕ) where
   reads-earlier k = reads-less L _ _
 
   -- a node with one operand, and with two
-  reads-unary : (k : ℕ) (f : ℕ → Node ℕ) {operand : Parser ℕ} {P : ℕ → Type 0} → Reads operand (width L) P
+  reads-unary : (k : ℕ) (f : ℕ → Node Atom) {operand : Parser ℕ} {P : ℕ → Type 0} → Reads operand (width L) P
       → ((a : ℕ) → P a → NodeRead driven k (f a)) → Reads (unary L f operand) (2 * width L) (NodeRead driven k)
   reads-unary k f r h =
       weaker (omega arith) (λ m q. q) (reads-bind r (λ a p. reads-give (NodeRead driven k) (f a) (h a p)))
 
-  reads-binary : (k : ℕ) (f : ℕ → ℕ → Node ℕ) → ((a b : ℕ) → a < k → b < k → NodeRead driven k (f a b))
+  reads-binary : (k : ℕ) (f : ℕ → ℕ → Node Atom) → ((a b : ℕ) → a < k → b < k → NodeRead driven k (f a b))
       → Reads (binary L f k) (2 * width L) (NodeRead driven k)
   reads-binary k f h =
       weaker (omega arith) (λ m q. q)
@@ -66,7 +67,7 @@ module _ (L : Limits) (W driven : ℕ) where
   reads-operands : (k kind : ℕ) → Reads (nodeOf L W driven k kind) (2 * width L) (NodeRead driven k)
   reads-operands k zero = weaker (omega arith) (λ m q. q) (reads-give (NodeRead driven k) top (record { before = tt; names = tt }))
   reads-operands k (suc zero) =
-      reads-unary k atom (reads-named L _ _) (λ v h. record { before = tt; names = h })
+      reads-unary k (λ w. atom (onSignal w)) (reads-named L _ _) (λ v h. record { before = tt; names = h })
   reads-operands k (suc (suc zero)) =
       reads-unary k neg (reads-earlier k) (λ v h. record { before = one v k h; names = tt })
   reads-operands k (suc (suc (suc zero))) = reads-binary k or (λ a b p q. record { before = two a b k p q; names = tt })
@@ -85,18 +86,18 @@ module _ (L : Limits) (W driven : ℕ) where
   reads-nodes n l =
       weaker (omega arith) made (reads-list (node L W driven) (λ k a. k + 1) (NodeRead driven) reads-node n (L .nodes) l 0)
     where
-      at : (ns : List (Node ℕ)) → Along (NodeRead driven) (λ k a. k + 1) 0 ns → (k : ℕ) → k < length ns → NodeRead driven k (nodeAt ns k)
+      at : (ns : List (Node Atom)) → Along (NodeRead driven) (λ k a. k + 1) 0 ns → (k : ℕ) → k < length ns → NodeRead driven k (nodeAt ns k)
       at ns h k l = let e : 0 + k ≡ k = omega arith in subst (λ j. NodeRead driven j (nodeAt ns k)) e (along-places (NodeRead driven) top 0 ns h k l)
 
       -- past the last node there is true, which names nothing
-      names : (ns : List (Node ℕ)) → Along (NodeRead driven) (λ k a. k + 1) 0 ns → (k : ℕ) → Named driven (nodeAt ns k)
+      names : (ns : List (Node Atom)) → Along (NodeRead driven) (λ k a. k + 1) 0 ns → (k : ℕ) → Named driven (nodeAt ns k)
       names ns h k =
           elim (decLt k (length ns)) [
             | yes l ↦ at ns h k l .names
             | no l ↦ subst (Named driven) (sym (List·getD-eq-default ns top {n = k} (omega arith))) tt
           ]
 
-      made : (ns : List (Node ℕ)) → Sequence (NodeRead driven) (λ k a. k + 1) n 0 ns → NodesRead driven n ns
+      made : (ns : List (Node Atom)) → Sequence (NodeRead driven) (λ k a. k + 1) n 0 ns → NodesRead driven n ns
       made ns h =
           record {
             long = h .long;

@@ -1,6 +1,6 @@
 -- The formula of a node is its kind applied to its operands' formulas; what stands under a node stands under its formula.
 use mathlib.Core.Path.{_≡_, ap, ap₂, refl, subst, sym}
-use mathlib.Core.Logic.{inl, inr}
+use mathlib.Core.Logic.{_↔_, inl, inr}
 use mathlib.Core.Bool.{Bool, _&&_, _||_, false, true}
 use mathlib.Core.List.{List}
 use lib.Dec.{T, eqb, eqb-refl, eqb→eq, ltb, ltb→lt}
@@ -13,8 +13,10 @@ use Rattle.meaning.specs.Nodes.{Beneath, Earlier, Node, Operand, formula
 use Rattle.meaning.specs.Nodes.{of-or-l, of-or-r, through, unfolded}
 use Rattle.meaning.specs.Reference.Nodes.{beneathB, earlierB, operands}
 use Rattle.meaning.specs.Reference.Tests.{allOf, anyOf}
+use Rattle.meaning.specs.Tests.{listed}
 use Rattle.meaning.proofs.Basic.Booleans.{and-l, and-r, or-l, or-out, or-r}
 use Rattle.meaning.proofs.Basic.Bounded.{all-out}
+use Rattle.meaning.proofs.Basic.Lists.{any-of-places}
 use Rattle.meaning.proofs.File.Formulas.{Part, Under, under}
 
 formula-same : {A : Type 0} (m : Node A) (f g : ℕ → Formula A) → ((i : ℕ) → Operand i m → f i ≡ g i) → formulaOf m f ≡ formulaOf m g
@@ -71,6 +73,15 @@ module _ {A : Type 0} (p : ℕ → Bool) where
   any-operand (Node.ex i) h = one-of (Node.ex i) i of-ex h
   any-operand (Node.eg i) h = one-of (Node.eg i) i of-eg h
   any-operand (Node.eu i j) h = two-of (Node.eu i j) i j of-eu-l of-eu-r h
+
+-- the operands are those that are listed
+pub operand-listed : {A : Type 0} (m : Node A) (j : ℕ) → Operand j m ↔ T (listed (operands m) j)
+operand-listed m j = (
+  λ o. subst T (sym (any-of-places (λ i. eqb i j) 0 (operands m))) (operand-any (λ i. eqb i j) m j o (eqb-refl j)),
+  λ h.
+      let (k, o, e) = any-operand (λ i. eqb i j) m (subst T (any-of-places (λ i. eqb i j) 0 (operands m)) h) in
+      subst (λ k. Operand k m) (eqb→eq k j e) o,
+)
 
 no-operand : {A : Type 0} (i : ℕ) → Operand {A = A} i Node.top → ⊥
 no-operand {A} i o = all-operands {A = A} (λ k. false) Node.top i o tt

@@ -8,6 +8,7 @@ use lib.ListN.{List·getD-eq-default, getD, length}
 use native.Mathlib.Decide.{decLt}
 use native.Mathlib.Omega.{arith}
 use Prim.Native.Nat.{_<_, ℕ}
+use Rattle.meaning.specs.Atoms.{Atom, onSignal}
 use Rattle.meaning.specs.Combination.{driven}
 use Rattle.meaning.specs.Instrument.{Accepted, Instrument, IsStart, WellFormed, components, table}
 use Rattle.meaning.specs.Nodes.{Node, atom, nodeAt}
@@ -60,7 +61,7 @@ module _ (I : Instrument) where
         (all-out (components I) (λ i. ltb (getD start i 0) (table I i .states)) (search conj) i l),
   )
 
-  named-sound : (m : Node ℕ) → T (namedB I m) → (w : ℕ) → m ≡ atom w → (i : ℕ) × (i < components I) × T (owns (table I i) w)
+  named-sound : (m : Node Atom) → T (namedB I m) → (w : ℕ) → m ≡ atom (onSignal w) → (i : ℕ) × (i < components I) × T (owns (table I i) w)
   named-sound m h w e = any-out (components I) (λ i. owns (table I i) w) (subst (λ m. T (namedB I m)) e h)
 
   pub accepted-sound : T (acceptedB I) → Accepted I

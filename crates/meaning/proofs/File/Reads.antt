@@ -1,13 +1,14 @@
 -- The grammar keeps what a reader promises: the contents that it finds in a file are Promised (specs/File/Promise). With it, how many bytes
 -- it reads at most.
-use mathlib.Core.Path.{_∙_, _≡_, ap, subst, sym}
+use mathlib.Core.Path.{_∙_, _≡_, ap, refl, subst, sym}
 use mathlib.Core.Logic.{inl, inr}
-use mathlib.Core.List.{List, map}
+use mathlib.Core.List.{List, [], map}
 use lib.Dec.{T, leb, leb→le, le→leb}
 use lib.ListN.{List·getD-map, getD, length, length-map, length-take, take}
 use native.Mathlib.Omega.{arith}
 use Prim.Native.Nat.{_*_, _+_, _<_, _≤_, ℕ}
 use Rattle.words.proofs.Members.{has-none}
+use Rattle.meaning.specs.Atoms.{Atom}
 use Rattle.meaning.specs.File.Grammar.{Component, Contents, Limits, drivenBy, finished, limits, readFile, start, startState, whole}
 use Rattle.meaning.specs.File.Parser.{demand, done, found, repeat}
 use Rattle.meaning.specs.File.Promise.{Promised, Within, noComponent}
@@ -71,10 +72,10 @@ module _ (L : Limits) where
   abbrev pub fileNumbers : ℕ
   fileNumbers = 4 + L .components * componentNumbers L + L .nodes * 3 + L .starts * L .components
 
-  promised : (n W k m : ℕ) (cs : List Component) (ns : List (Node ℕ)) (ss : List (List ℕ)) → Within 1 (L .components) n → W ≤ L .signals
+  promised : (n W k m : ℕ) (cs : List Component) (ns : List (Node Atom)) (ss : List (List ℕ)) → Within 1 (L .components) n → W ≤ L .signals
       → ComponentsRead L W noComponent n cs → Within 1 (L .nodes) k → NodesRead (drivenBy 0 cs) k ns → m ≤ L .starts
       → (length ss ≡ m) × All (StartRead (map (λ c. c .states) cs)) ss
-      → Promised L (record { signals = W; components = cs; nodes = ns; starts = ss })
+      → Promised L (record { signals = W; components = cs; nodes = ns; starts = ss; sets = [] })
   promised n W k m cs ns ss hn hW qc hk qn hm qs =
       record {
         componentCount = subst (Within 1 (L .components)) (sym (qc .long)) hn;
@@ -88,6 +89,7 @@ module _ (L : Limits) where
             elim (has-driven noComponent 0 cs w .0 (qn .names k w e)) [ inl h ↦ absurd (subst T (has-none w) h) | inr d ↦ d ];
         startCount = omega (arith, qs .0);
         starts = all-map each ss (qs .1);
+        bare = refl;
       }
     where
       each : (start : List ℕ) → StartRead (map (λ c. c .states) cs) start
@@ -110,7 +112,7 @@ module _ (L : Limits) where
       reads-bind (reads-between L _ _ _) (λ m hm.
       reads-bind (reads-starts (map (λ c. c .states) cs) m (omega (arith, hn .1, qc .long, length-map cs (λ c. c .states))) (hm .1)) (λ ss qs.
       reads-then reads-finished (λ d u.
-      reads-give (Promised L) (record { signals = W; components = cs; nodes = ns; starts = ss })
+      reads-give (Promised L) (record { signals = W; components = cs; nodes = ns; starts = ss; sets = [] })
       (promised n W k m cs ns ss hn (hW .1) qc hk qn (hm .1) qs))))))))))
 
 -- what a reader promises of an accepted file

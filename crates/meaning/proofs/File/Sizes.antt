@@ -7,6 +7,7 @@ use lib.ListN.{drop, length, length-drop}
 use native.Mathlib.Omega.{arith}
 use Prim.Native.Nat.{_%_, _*_, _+_, _/_, _<_, _^_, _≤_, suc, zero, ℕ}
 use Rattle.words.specs.Sets.{has}
+use Rattle.meaning.specs.Atoms.{Atom, onSignal}
 use Rattle.meaning.specs.File.Grammar.{Component, Contents, Limits, between, binary, component, components, drivenBy, earlier, lessThan}
 use Rattle.meaning.specs.File.Grammar.{named, node, nodes, number, operands, signal, signals, start, startState, unary, whole, withAll}
 use Rattle.meaning.specs.File.Number.{choose, groups, withHigher}
@@ -53,9 +54,9 @@ module _ (L : Limits) where
       numberBytes (c .states) + (numberBytes (length (c .inputs)) + numbersBytes (c .inputs))
       + (numberBytes (length (c .outputs)) + numbersBytes (c .outputs)) + numbersBytes (c .outs) + numbersBytes (c .nexts)
 
-  abbrev pub nodeSize : Node ℕ → ℕ
+  abbrev pub nodeSize : Node Atom → ℕ
   nodeSize top = 1
-  nodeSize (atom w) = 1 + numberBytes w
+  nodeSize (atom (onSignal w)) = 1 + numberBytes w
   nodeSize (neg i) = 1 + numberBytes i
   nodeSize (or i j) = 1 + numberBytes i + numberBytes j
   nodeSize (ex i) = 1 + numberBytes i
@@ -185,12 +186,12 @@ module _ (file : List ℕ) where
     low v l = bytes-low (L .groupsBefore) v l
 
     module _ (W driven k at n : ℕ) where
-      unary-takes : (f : ℕ → Node ℕ) (operand : Parser ℕ) → ((a : ℕ) → nodeSize L (f a) ≡ 1 + numberBytes L a) → n ≡ at + 1
+      unary-takes : (f : ℕ → Node Atom) (operand : Parser ℕ) → ((a : ℕ) → nodeSize L (f a) ≡ 1 + numberBytes L a) → n ≡ at + 1
           → Told (λ v e. Takes n (numberBytes L v) e) (operand file n) → Told (λ m e. Takes at (nodeSize L m) e) (unary L f operand file n)
       unary-takes f operand s q h =
           told-on h (λ a e p. told-found _ (f a) e (record { is = omega (arith, p .is, s a); inside = p .inside }))
 
-      binary-takes : (f : ℕ → ℕ → Node ℕ) → ((a b : ℕ) → nodeSize L (f a b) ≡ 1 + numberBytes L a + numberBytes L b) → n ≡ at + 1
+      binary-takes : (f : ℕ → ℕ → Node Atom) → ((a b : ℕ) → nodeSize L (f a b) ≡ 1 + numberBytes L a + numberBytes L b) → n ≡ at + 1
           → Told (λ m e. Takes at (nodeSize L m) e) (binary L f k file n)
       binary-takes f s q =
           told-on (less-takes k 7 n) (λ a e p. told-on (less-takes k 7 e) (λ b e p′. told-found _ (f a b) e
@@ -199,7 +200,7 @@ module _ (file : List ℕ) where
       operands-take : (kind : ℕ) → n ≤ length file → n ≡ at + numberBytes L kind
           → Told (λ m e. Takes at (nodeSize L m) e) (operands L W driven k kind file n)
       operands-take zero l q = told-found _ top n (record { is = omega (arith, low 0 (omega arith)); inside = l })
-      operands-take (suc zero) l q = unary-takes atom (named L W driven) (λ a. refl) (omega (arith, low 1 (omega arith))) (named-takes W driven n)
+      operands-take (suc zero) l q = unary-takes (λ w. atom (onSignal w)) (named L W driven) (λ a. refl) (omega (arith, low 1 (omega arith))) (named-takes W driven n)
       operands-take (suc (suc zero)) l q = unary-takes neg (earlier L k) (λ a. refl) (omega (arith, low 2 (omega arith))) (less-takes k 7 n)
       operands-take (suc (suc (suc zero))) l q = binary-takes or (λ a b. refl) (omega (arith, low 3 (omega arith)))
       operands-take (suc (suc (suc (suc zero)))) l q =
@@ -234,7 +235,7 @@ module _ (file : List ℕ) where
         told-on (list-takes (λ s. start L (map (λ c. c .states) cs)) (λ s a. s) (numbersBytes L)
         (λ s at l. start-takes (map (λ c. c .states) cs) at l) m done e (hm .inside)) (λ ss e qs.
         told-on (told-demand file e (leb (length file) e) 10) (λ d e′ h.
-        told-found _ (record { signals = W; components = cs; nodes = ns; starts = ss }) e′
+        told-found _ (record { signals = W; components = cs; nodes = ns; starts = ss; sets = [] }) e′
         (let a : numberBytes L (length cs) ≡ numberBytes L n = ap (numberBytes L) (qc .long) in
         let b : numberBytes L (length ns) ≡ numberBytes L k = ap (numberBytes L) (qn .long) in
         let c : numberBytes L (length ss) ≡ numberBytes L m = ap (numberBytes L) (qs .long) in

@@ -1,5 +1,5 @@
 -- What the theorems ask of atoms and of what is compared: of one table, of one component in a combination, of a whole instrument. Signals
--- have all of it (Marks/Signals).
+-- have all of it (Marks/Atoms).
 use mathlib.Core.Path.{_≡_}
 use mathlib.Core.Logic.{_≢_}
 use mathlib.Core.Bool.{Bool}

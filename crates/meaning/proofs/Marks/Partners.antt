@@ -5,15 +5,17 @@ use mathlib.Core.Logic.{_≢_}
 use lib.Dec.{T}
 use native.Mathlib.Decide.{ℕ-discrete}
 use Prim.Native.Nat.{_<_, ℕ}
-use Rattle.meaning.specs.Combination.{State, Truth, high}
+use Rattle.meaning.specs.Atoms.{Atom}
+use Rattle.meaning.specs.Combination.{State, Truth}
 use Rattle.meaning.specs.Formula.{Formula}
 use Rattle.meaning.specs.Instrument.{Accepted, Instrument, Partner, components, table}
 use Rattle.meaning.specs.Marks.{Fail, Pass}
 use Rattle.meaning.specs.Reference.Marks.{failB, passB}
+use Rattle.meaning.specs.Seen.{value}
 use Rattle.meaning.specs.Table.{Table, Total}
-use Rattle.meaning.specs.View.{signals}
+use Rattle.meaning.specs.View.{atoms}
 use Rattle.meaning.proofs.Marks.Decided.{fail-decides, pass-decides}
-use Rattle.meaning.proofs.Marks.Signals.{signals-sound}
+use Rattle.meaning.proofs.Marks.Atoms.{atoms-sound}
 use Rattle.meaning.proofs.Marks.Sound.{fail-sound, pass-sound}
 
 -- in an accepted instrument the other components are partners of each
@@ -28,20 +30,20 @@ module _ (n : ℕ) (S : ℕ → Table) (k : ℕ) (l : k < n) (total : Total (S k
   totals i m = elim (ℕ-discrete i k) [ yes e ↦ subst (λ i. Total (S i)) (sym e) total | no z ↦ partners i m z .total ]
 
   -- in every combined state, a PASS state of the component makes the formula true, a FAIL state false, whatever outputs are compared
-  pub marks-beside : (compared : ℕ → ℕ) (φ : Formula ℕ) (s : State n S)
-      → (Pass (S k) (signals compared (S k)) φ (s .at k) → Truth n S (high n S) φ s)
-      × (Fail (S k) (signals compared (S k)) φ (s .at k) → Truth n S (high n S) φ s → ⊥)
+  pub marks-beside : (compared : ℕ → ℕ) (φ : Formula Atom) (s : State n S)
+      → (Pass (S k) (atoms compared (S k)) φ (s .at k) → Truth n S (value n S) φ s)
+      × (Fail (S k) (atoms compared (S k)) φ (s .at k) → Truth n S (value n S) φ s → ⊥)
   marks-beside compared φ s =
-      let ok = signals-sound n S compared k l (λ j m z. partners j m z .apart) in
-      let κ = signals compared (S k) in
-      (pass-sound n S totals (high n S) k κ ok φ s, fail-sound n S totals (high n S) k κ ok φ s)
+      let ok = atoms-sound n S compared k l (λ j m z. partners j m z .apart) in
+      let κ = atoms compared (S k) in
+      (pass-sound n S totals (value n S) k κ ok φ s, fail-sound n S totals (value n S) k κ ok φ s)
 
   -- the same of the computed marks
-  pub computed-beside : (compared : ℕ → ℕ) (φ : Formula ℕ) (s : State n S)
-      → (T (passB (S k) (signals compared (S k)) φ (s .at k)) → Truth n S (high n S) φ s)
-      × (T (failB (S k) (signals compared (S k)) φ (s .at k)) → Truth n S (high n S) φ s → ⊥)
+  pub computed-beside : (compared : ℕ → ℕ) (φ : Formula Atom) (s : State n S)
+      → (T (passB (S k) (atoms compared (S k)) φ (s .at k)) → Truth n S (value n S) φ s)
+      × (T (failB (S k) (atoms compared (S k)) φ (s .at k)) → Truth n S (value n S) φ s → ⊥)
   computed-beside compared φ s =
-      let κ = signals compared (S k) in
+      let κ = atoms compared (S k) in
       let m = marks-beside compared φ s in (
         λ h. m .0 (pass-decides (S k) κ total φ .sound (s .at k) (s .ok k l) h),
         λ h. m .1 (fail-decides (S k) κ total φ .sound (s .at k) (s .ok k l) h),

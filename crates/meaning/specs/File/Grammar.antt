@@ -6,6 +6,7 @@ use lib.Dec.{ltb, leb}
 use lib.ListN.{length, getD}
 use Prim.Native.Nat.{ℕ, zero, suc, _+_, _-_, _*_, _^_}
 use Rattle.words.specs.Sets.{has, insert}
+use Rattle.meaning.specs.Atoms.{Atom, Set, onSignal}
 use Rattle.meaning.specs.Table.{Table, fromWords}
 use Rattle.meaning.specs.Nodes.{Node, top, atom, neg, or, ex, eg, eu}
 use Rattle.meaning.specs.Instrument.{Instrument}
@@ -64,14 +65,16 @@ pub record Component : Type 0 where
 pub record Contents : Type 0 where
   pub signals : ℕ
   pub components : List Component
-  pub nodes : List (Node ℕ)
+  pub nodes : List (Node Atom)
   pub starts : List (List ℕ)
+  -- named sets of combined states, of which an instrument file holds none
+  pub sets : List Set
 
 abbrev pub tableOf : Component → Table
 tableOf c = fromWords (c .states) (c .inputs) (c .outputs) (c .outs) (c .nexts)
 
 abbrev pub instrumentOf : Contents → Instrument
-instrumentOf c = record { signals = c .signals; tables = map tableOf (c .components); nodes = c .nodes; starts = c .starts }
+instrumentOf c = record { signals = c .signals; tables = map tableOf (c .components); nodes = c .nodes; starts = c .starts; sets = c .sets }
 
 -- a set of signals with those of a list besides, bit w for signal w
 unfoldable pub withAll : ℕ → List ℕ → ℕ
@@ -139,21 +142,21 @@ module _ (L : Limits) where
     demand (ltb v W && has driven v) 8
     give v
 
-  abbrev pub unary : (ℕ → Node ℕ) → Parser ℕ → Parser (Node ℕ)
+  abbrev pub unary : (ℕ → Node Atom) → Parser ℕ → Parser (Node Atom)
   unary f operand = do
     a ← operand
     give (f a)
 
-  abbrev pub binary : (ℕ → ℕ → Node ℕ) → ℕ → Parser (Node ℕ)
+  abbrev pub binary : (ℕ → ℕ → Node Atom) → ℕ → Parser (Node Atom)
   binary f k = do
     a ← earlier k
     b ← earlier k
     give (f a b)
 
   -- node k of a known kind with its operands; 7 and above are refused
-  abbrev pub operands : ℕ → ℕ → ℕ → ℕ → Parser (Node ℕ)
+  abbrev pub operands : ℕ → ℕ → ℕ → ℕ → Parser (Node Atom)
   operands W driven k zero = give top
-  operands W driven k (suc zero) = unary atom (named W driven)
+  operands W driven k (suc zero) = unary (λ w. atom (onSignal w)) (named W driven)
   operands W driven k (suc (suc zero)) = unary neg (earlier k)
   operands W driven k (suc (suc (suc zero))) = binary or k
   operands W driven k (suc (suc (suc (suc zero)))) = unary ex (earlier k)
@@ -161,12 +164,12 @@ module _ (L : Limits) where
   operands W driven k (suc (suc (suc (suc (suc (suc zero)))))) = binary eu k
   operands W driven k (suc (suc (suc (suc (suc (suc (suc unknown))))))) = λ file at. fault 7
 
-  unfoldable pub node : ℕ → ℕ → ℕ → Parser (Node ℕ)
+  unfoldable pub node : ℕ → ℕ → ℕ → Parser (Node Atom)
   node W driven k = do
     kind ← number
     operands W driven k kind
 
-  abbrev pub nodes : ℕ → ℕ → ℕ → Parser (List (Node ℕ))
+  abbrev pub nodes : ℕ → ℕ → ℕ → Parser (List (Node Atom))
   nodes W driven count = listOf (node W driven) (λ k a. k + 1) count 0
 
   -- a start: one state of each component, of these sizes
@@ -190,7 +193,7 @@ module _ (L : Limits) where
     m ← between 0 (L .starts) 3
     ss ← repeat (start (map (λ c. c .states) cs)) m
     finished
-    give (record { signals = W; components = cs; nodes = ns; starts = ss })
+    give (record { signals = W; components = cs; nodes = ns; starts = ss; sets = [] })
 
 -- what document 01 makes of a file: a refusal's number, or the contents
 abbrev pub readFile : List ℕ → Got Contents

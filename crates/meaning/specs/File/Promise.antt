@@ -7,6 +7,7 @@ use lib.Dec.{T}
 use lib.ListN.{length, getD}
 use Prim.Native.Nat.{ℕ, _*_, _^_, _<_, _≤_}
 use Rattle.meaning.specs.Tests.{All, listed}
+use Rattle.meaning.specs.Atoms.{onSignal}
 use Rattle.meaning.specs.Nodes.{Earlier, atom, nodeAt}
 use Rattle.meaning.specs.File.Grammar.{Component, Contents, Limits}
 
@@ -53,12 +54,14 @@ pub record Promised (L : Limits) (c : Contents) : Type 0 where
   -- operands are earlier nodes
   pub earlier : Earlier (c .nodes)
   -- a signal that a node names is driven by some component
-  pub named : (k w : ℕ) → nodeAt (c .nodes) k ≡ atom w
+  pub named : (k w : ℕ) → nodeAt (c .nodes) k ≡ atom (onSignal w)
       → (i : ℕ) × (i < length (c .components)) × T (listed (componentAt c i .outputs) w)
   pub startCount : length (c .starts) ≤ L .starts
   -- a start has one state of each component
   pub starts : All (λ start. (length start ≡ length (c .components))
       × ((i : ℕ) → i < length (c .components) → getD start i 0 < componentAt c i .states)) (c .starts)
+  -- an instrument file holds no named set
+  pub bare : c .sets ≡ []
 
 -- the listing program reads at most so many bytes, which settles every longer input too (proofs/File/Limit)
 abbrev pub listingBytes : ℕ

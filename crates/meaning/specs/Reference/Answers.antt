@@ -1,18 +1,17 @@
--- The results of the questions about an instrument, as lists of entries (document 01: Meaning, Marks, Classes, Merged tables), and what is left
--- in a lent buffer (Refused).
+-- The results of the questions about an instrument, as lists of entries (document 01: Meaning, Marks, Classes, Merged tables).
 use mathlib.Core.Bool.{_&&_}
 use mathlib.Core.List.{List, [], _∷_, _++_}
-use lib.Dec.{leb}
-use lib.ListN.{length, drop}
+use lib.ListN.{length}
 use Prim.Native.Nat.{ℕ, zero, suc}
 use Rattle.words.specs.Sets.{built}
+use Rattle.meaning.specs.Atoms.{Atom}
 use Rattle.meaning.specs.Table.{Table}
 use Rattle.meaning.specs.Formula.{Formula}
 use Rattle.meaning.specs.Nodes.{formulaAt}
 use Rattle.meaning.specs.Instrument.{Instrument, components, table, rootNode, rootFormula}
-use Rattle.meaning.specs.File.Number.{choose}
-use Rattle.meaning.specs.Combination.{high, count}
-use Rattle.meaning.specs.View.{View, wholeWords}
+use Rattle.meaning.specs.Combination.{count}
+use Rattle.meaning.specs.View.{View}
+use Rattle.meaning.specs.Seen.{valueOf, viewOf}
 use Rattle.meaning.specs.Merged.{mergedCount}
 use Rattle.meaning.specs.Reference.Nodes.{beneathB}
 use Rattle.meaning.specs.Reference.Marks.{passB, failB}
@@ -36,10 +35,10 @@ module _ (I : Instrument) where
   abbrev S : ℕ → Table
   S = table I
 
-  abbrev κ : ℕ → View ℕ
-  κ i = wholeWords (S i)
+  abbrev κ : ℕ → View Atom
+  κ = viewOf I
 
-  abbrev formula : ℕ → Formula ℕ
+  abbrev formula : ℕ → Formula Atom
   formula k = formulaAt (I .nodes) k
 
   -- the full way: a word per combined state, in the order of indices, bit k the truth of node k
@@ -47,7 +46,7 @@ module _ (I : Instrument) where
   fullCount = count n (λ i. S i .states)
 
   abbrev pub fullWord : ℕ → ℕ
-  fullWord x = built (length (I .nodes)) (λ k. truthB n S (I .signals) (high n S) (formula k) x)
+  fullWord x = built (length (I .nodes)) (λ k. truthB n S (I .signals) (valueOf I) (formula k) x)
 
   abbrev pub fullWords : List ℕ
   fullWords = listBelow fullCount fullWord
@@ -76,25 +75,7 @@ module _ (I : Instrument) where
   abbrev pub mergedWord : ℕ → ℕ
   mergedWord x =
       built (length (I .nodes)) (λ k.
-      beneathB (I .nodes) (suc (rootNode I)) k (rootNode I) && mergedB n S classesAt κ (high n S) (I .signals) (formula k) x)
+      beneathB (I .nodes) (suc (rootNode I)) k (rootNode I) && mergedB n S classesAt κ (valueOf I) (I .signals) (formula k) x)
 
   abbrev pub mergedWords : List ℕ
   mergedWords = listBelow mergedSize mergedWord
-
--- a refusal's number, or the entries to be written
-pub data Outcome : Type 0 where
-  refused : ℕ → Outcome
-  entries : List ℕ → Outcome
-
--- its number, 0 where it is not refused; and the lent buffer afterwards: as it was, or the entries and then the rest as it was
-abbrev pub outcomeNumber : Outcome → ℕ
-outcomeNumber (refused r) = r
-outcomeNumber (entries vs) = 0
-
-abbrev pub lentAfter : Outcome → List ℕ → List ℕ
-lentAfter (refused r) old = old
-lentAfter (entries vs) old = vs ++ drop (length vs) old
-
--- entries for a buffer with so much room: 13 if it is too short
-abbrev pub fitting : ℕ → List ℕ → Outcome
-fitting room vs = choose (leb (length vs) room) (entries vs) (refused 13)

@@ -4,6 +4,7 @@ use lib.ListN.{length, getD}
 use mathlib.Core.List.{List}
 use lib.Dec.{eqb, ltb}
 use Prim.Native.Nat.{ℕ}
+use Rattle.meaning.specs.Atoms.{Atom, onSignal}
 use Rattle.meaning.specs.Tests.{anyBelow, listed}
 use Rattle.meaning.specs.Table.{Table, assignments, owns}
 use Rattle.meaning.specs.Nodes.{Node, top, atom, neg, or, ex, eg, eu, nodeAt}
@@ -35,9 +36,9 @@ abbrev pub isStartB : Instrument → List ℕ → Bool
 isStartB I start = eqb (length start) (components I) && allBelow (components I) (λ i. ltb (getD start i 0) (table I i .states))
 
 -- some component drives the signal that the node names, if it names one
-abbrev pub namedB : Instrument → Node ℕ → Bool
+abbrev pub namedB : Instrument → Node Atom → Bool
 namedB I top = true
-namedB I (atom w) = anyBelow (components I) (λ i. owns (table I i) w)
+namedB I (atom (onSignal w)) = anyBelow (components I) (λ i. owns (table I i) w)
 namedB I (neg i) = true
 namedB I (or i j) = true
 namedB I (ex i) = true

@@ -6,8 +6,8 @@ use Rattle.partitions.proofs.all_classes.Tie as tie
 lent-classes-requires : tie.Need-lent-classes-requires
 lent-classes-requires c κs =
     let m = c .before .before .before .before .before in
-    let (k, d) = m .before .before .before .before .before .before .before .before .before .before .before .pre in
-    (_, k, record { describes = d; marked = m .lent-marks .ensures _ k d (lent-all _) }, lent-all _)
+    let ((k, d), good) = m .before .before .before .before .before .before .before .before .before .before .before .pre in
+    ((_, k, record { describes = d; marked = m .lent-marks .ensures _ k d (lent-all _) }, lent-all _), good)
 
 returns : tie.Need-returns
 returns c =

@@ -4,6 +4,7 @@ use Prim.Native.Nat.{_-_, _≤_}
 use borrow.Author.Needs.{needs}
 use Rattle.instrument.specs.declared.Instrument.{Instrument}
 use Rattle.instrument.specs.Outline.{whole}
+use Rattle.instrument.specs.Roots.{listedRoots}
 use Rattle.instrument.proofs.Bounds.{count-bounds, states-bounds}
 use Rattle.partitions.specs.Progress.{Writing}
 use Rattle.partitions.proofs.Entries.{writing-start, writing-more, writing-room, writing-end, names-written}
@@ -24,7 +25,7 @@ few : (s : tie.Start Inv-loop μ-loop) → s .args .t1 .components ≤ 4
 few s = count-bounds (own s) (s .pre .0 .0) (s .pre .0 .1) .1
 
 all-classes-requires : tie.Need-all-classes-requires Inv-loop μ-loop
-all-classes-requires c κs = c .before .before .pre .0
+all-classes-requires c κs = let p = c .before .before .pre in (p .0, p .1)
 
 cast-n : tie.Need-cast-n Inv-loop μ-loop
 cast-n c = search needs
@@ -52,7 +53,7 @@ write-names-requires c κs =
     let s = c .before .before .before .before .before .before .before .before in
     let l = c .before .before .before .before in (
       states-bounds (own s) (s .pre .0 .0) (s .pre .0 .1) (l .loop .c) (c .before .before .before .loop-test .taken) .1,
-      writing-room _ _ _ _ (l .loop .c) (l .loop .place) _ (c .before .before .before .loop-test .taken) (s .pre .1) (l .loop .inv),
+      writing-room _ _ _ _ (l .loop .c) (l .loop .place) _ (c .before .before .before .loop-test .taken) (s .pre .2) (l .loop .inv),
     )
 
 add-place : tie.Need-add-place Inv-loop μ-loop
@@ -62,7 +63,7 @@ add-place c =
     omega (
       arith,
       writing-room _ _ _ _ (l .loop .c) (l .loop .place) _
-          (c .before .before .before .before .before .before .loop-test .taken) (s .pre .1) (l .loop .inv),
+          (c .before .before .before .before .before .before .loop-test .taken) (s .pre .2) (l .loop .inv),
     )
 
 add-c : tie.Need-add-c Inv-loop μ-loop
@@ -85,7 +86,7 @@ returns c =
     λ k d.
     let s = c .before .before .before .before .before in
     writing-end _ _ _ _ (c .before .loop .c) (c .before .loop .place) _ (omega arith) (c .before .loop .inv)
-    ∙ names-written (own s) k d _ (c .before .before .all-classes .ensures k d) _ (s .pre .1)
+    ∙ names-written (own s) k d (listedRoots (s .args .roots)) _ (c .before .before .all-classes .ensures k d) _ (s .pre .2)
 
 pub write-classes-spec : {M : Type 1} → statement M
 write-classes-spec =

@@ -54,6 +54,6 @@ locate-spec =
     (λ c. search needs)
     (λ c κs. search needs)
     returns
-    (λ c κs. omega (arith, c .before .before .before .before .before .before .before .whole .ensures .1, c .if1 .left))
+    (λ c κs. omega (arith, c .before .before .before .before .before .before .before .whole .ensures .1 .0, c .if1 .left))
     returns-2
     returns-3)

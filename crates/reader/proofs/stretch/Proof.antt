@@ -5,29 +5,18 @@ use Rattle.meaning.specs.File.Stretches.{startOf, endOf}
 use Rattle.parsing.specs.declared.Outcome.the-variants.{Accepted}
 use Rattle.parsing.proofs.Steps.{refused-was, accepted-was}
 use Rattle.tables.specs.Stages.{addComponent, readFirst}
+use Rattle.tables.proofs.Lent.{component-goes}
 use Rattle.reader.specs.Outcomes.{Tells}
 use Rattle.reader.proofs.Places.{locates-refused, stretch-fault, stretch-found}
 use borrow.Author.Needs.{needs}
 use Rattle.reader.proofs.stretch.Statement.{statement}
 use Rattle.reader.proofs.stretch.Tie as tie
 
-first-requires : tie.Need-first-requires
-first-requires c κs = search needs
-
 component-requires : tie.Need-component-requires
 component-requires c κs =
     let pre′ = c .before .before .pre in
     let f = c .first .ensures .1 in
     (omega (arith, f .few-components, pre′), f .few-signals)
-
-enum-known-outcome : tie.Need-enum-known-outcome
-enum-known-outcome c = search needs
-
-nowhere-requires : tie.Need-nowhere-requires
-nowhere-requires c κs = search needs
-
-enum-told : tie.Need-enum-told
-enum-told c = search needs
 
 returns : tie.Need-returns
 returns c =
@@ -38,8 +27,8 @@ returns c =
     let file = args′ .file .now in
     let g = readFirst (args′ .c) file 0 in
     let e =
-    refused-was (component′ .result) _ (on g (λ k at. addComponent k file at)) (outcome′ .given .1) (component′ .ensures .0 .on-from g (first′ .ensures .0)) in
-    locates-refused _ _ _ (c .nowhere .ensures) (stretch-fault file (args′ .c) (first′ .result) (first′ .ensures .0) _ e)
+    refused-was (component′ .result) _ (on g (λ k at. addComponent k file at)) (outcome′ .given .1) (component-goes file (first′ .result) (component′ .result) (component′ .ensures) .on-from g (first′ .ensures .0 .told)) in
+    locates-refused _ _ _ (c .nowhere .ensures) (stretch-fault file (args′ .c) (first′ .result) (first′ .ensures .0 .told) _ e)
 
 returns-2 : tie.Need-returns-2
 returns-2 c =
@@ -49,18 +38,18 @@ returns-2 c =
     let file = args′ .file .now in
     let g = readFirst (args′ .c) file 0 in
     let w =
-    accepted-was (component′ .result) (on g (λ k at. addComponent k file at)) (c .enum-told .given .1) (component′ .ensures .0 .on-from g (first′ .ensures .0)) in
-    let e = stretch-found file (args′ .c) (first′ .result) (first′ .ensures .0) _ _ (w .is) in
+    accepted-was (component′ .result) (on g (λ k at. addComponent k file at)) (c .enum-told .given .1) (component-goes file (first′ .result) (component′ .result) (component′ .ensures) .on-from g (first′ .ensures .0 .told)) in
+    let e = stretch-found file (args′ .c) (first′ .result) (first′ .ensures .0 .told) _ _ (w .is) in
     record { told = subst (Tells Accepted) (sym e) tt; start-is = sym (ap startOf e); end-is = sym (ap endOf e) }
 
 pub stretch-spec : {M : Type 1} → statement M
 stretch-spec =
     tie.close
     (tie.spec
-    first-requires
+    (λ c κs. search needs)
     component-requires
-    enum-known-outcome
-    nowhere-requires
-    enum-told
+    (λ c. search needs)
+    (λ c κs. search needs)
+    (λ c. search needs)
     returns
     returns-2)

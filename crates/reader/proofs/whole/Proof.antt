@@ -1,12 +1,13 @@
-use mathlib.Core.Path.{refl, ap, _∙_}
+use mathlib.Core.Path.{ap, _∙_}
 use native.Mathlib.Omega.{arith}
 use Rattle.meaning.specs.File.Parser.{on}
 use Rattle.instrument.specs.Layout.{layout, nothing}
 use Rattle.parsing.specs.Stages.{mapped}
 use Rattle.tables.specs.Stages.{readTables}
-use Rattle.tables.specs.Steps.{assembled}
+use Rattle.tables.specs.Growth.{assembled}
 use Rattle.formulas.specs.Stages.{readNodes, readStarts}
 use Rattle.formulas.specs.Steps.{withNodeList, withStartList}
+use Rattle.formulas.proofs.Counted.{nodes-go, starts-go}
 use Rattle.reader.proofs.Files.{in-stages}
 use borrow.Author.Needs.{needs}
 use Rattle.reader.proofs.whole.Statement.{statement}
@@ -24,10 +25,10 @@ returns c =
     let n = on g (λ k at. readNodes k file at) in
     let s = on n (λ k at. readStarts k file at) in (
       c .finish .ensures .goes (withStartList u (starts′ .result)) .on-from s
-          (starts′ .ensures .goes u refl refl (omega arith) .on-from n
-          (nodes′ .ensures .goes t refl refl (omega arith) .on-from g (tables′ .ensures .0)))
+          (starts-go u file (nodes′ .result .outcome) (nodes′ .result .at) (starts′ .result) (starts′ .ensures) (omega arith) (tables′ .ensures .1 .0) .on-from n
+          (nodes-go t file (tables′ .result .outcome) (tables′ .result .at) (nodes′ .result) (nodes′ .ensures) (omega arith) .on-from g (tables′ .ensures .0 .laid)))
           ∙ ap (mapped layout) (in-stages file),
-      tables′ .ensures .1 .0,
+      (tables′ .ensures .1 .0, tables′ .ensures .0 .lent-are),
     )
 
 pub whole-spec : {M : Type 1} → statement M

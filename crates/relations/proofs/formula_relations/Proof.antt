@@ -36,7 +36,7 @@ loop-again c =
     (λ h.
     rw (h .9)
     (relating-in _ _ _ _ _ _ _ _ _ _ (s .pre .0 .steps .most-states) (l .loop .k) (l .loop .relations) _ (i .loop-test .taken)
-    (sym (h .0 .taken) ∙ m .member .ensures) (h .1 .result) (h .2 .result) (h .1 .ensures .1) (h .2 .ensures .1) (h .8 .ensures) (l .loop .inv)))
+    (sym (h .0 .taken) ∙ m .member .ensures) (h .1 .result) (h .2 .result) (h .1 .ensures .1) (h .2 .ensures .1) (h .8 .ensures _) (l .loop .inv)))
     (λ h.
     rw (h .1)
     (relating-out _ _ _ _ _ _ _ _ _ _ (l .loop .k) (l .loop .relations) (i .loop-test .taken) (sym (h .0 .left) ∙ m .member .ensures) (l .loop .inv)))

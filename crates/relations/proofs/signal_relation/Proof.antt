@@ -4,7 +4,7 @@ use mathlib.Core.Path.{_∙_}
 use native.Mathlib.Omega.{arith}
 use Prim.Native.Nat.{_-_}
 use Rattle.marks.specs.Written.{Unlisted}
-use Rattle.marks.proofs.Signals.{unlisted-start, unlisted-more}
+use Rattle.loops.proofs.Searched.{searched-start, searched-more}
 use Rattle.relations.proofs.Signals.{signal-level, signal-all}
 use Rattle.relations.proofs.signal_relation.Statement.{statement}
 use Rattle.relations.proofs.signal_relation.Tie as tie
@@ -16,7 +16,7 @@ abbrev μ-loop : tie.MeasureT-loop
 μ-loop outs outputs states w j₀ j = length outputs - j
 
 loop-holds : tie.Need-loop-holds Inv-loop μ-loop
-loop-holds c = unlisted-start _ _
+loop-holds c = searched-start
 
 mul-if1 : tie.Need-mul-if1 Inv-loop μ-loop
 mul-if1 c = omega arith
@@ -44,7 +44,7 @@ loop-less : tie.Need-loop-less Inv-loop μ-loop
 loop-less c = omega arith
 
 loop-again : tie.Need-loop-again Inv-loop μ-loop
-loop-again c = unlisted-more _ _ _ (c .before .before .loop-test .taken) (c .if1 .left) (c .before .before .before .loop .inv)
+loop-again c = searched-more (c .before .before .before .loop .inv) (c .before .before .loop-test .taken) (c .if1 .left)
 
 rel-all-requires : tie.Need-rel-all-requires Inv-loop μ-loop
 rel-all-requires c κs = search needs

@@ -13,12 +13,6 @@ Inv-loop w out₀ at i₀ out i = (i ≤ length w) × Put (take i w) at (at + i)
 abbrev μ-loop : tie.MeasureT-loop
 μ-loop w out₀ at i₀ out i = length w - i
 
-loop-holds : tie.Need-loop-holds Inv-loop μ-loop
-loop-holds c = (omega arith, taken-none (c .args .w .now) _ _)
-
-slice-write-out : tie.Need-slice-write-out Inv-loop μ-loop
-slice-write-out c = omega (arith, put-length (c .before .before .loop .inv .1))
-
 loop-again : tie.Need-loop-again Inv-loop μ-loop
 loop-again c =
     let l = c .before .before in
@@ -35,10 +29,10 @@ word-spec =
     (tie.spec
     Inv-loop
     μ-loop
-    loop-holds
+    (λ c. (omega arith, taken-none (c .args .w .now) _ _))
     (λ c. omega arith)
     (λ c. omega arith)
-    slice-write-out
+    (λ c. omega (arith, put-length (c .before .before .loop .inv .1)))
     (λ c. omega arith)
     (λ c. omega arith)
     loop-again

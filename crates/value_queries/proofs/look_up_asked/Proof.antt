@@ -2,7 +2,6 @@ use mathlib.Core.Path.{sym, _∙_}
 use Rattle.meaning.specs.File.Grammar.{instrumentOf}
 use Rattle.instrument.specs.Outline.{whole}
 use Rattle.value_queries.proofs.Telling.{asked-none, asked-listed}
-use borrow.Author.Needs.{needs}
 use Rattle.value_queries.proofs.look_up_asked.Statement.{statement}
 use Rattle.value_queries.proofs.look_up_asked.Tie as tie
 

@@ -24,7 +24,7 @@ slice-aggregate-look-up-asked c = search needs
 look-up-asked-requires : tie.Need-look-up-asked-requires
 look-up-asked-requires c κs =
     let m = c .before .before .before .before .before in
-    let h = m .read .ensures .1 (c .before .before .enum-told .given .1) in
+    let h = m .read .ensures .1 .0 (c .before .before .enum-told .given .1) in
     (h .contents, h .describes)
 
 returns : tie.Need-returns
@@ -41,7 +41,7 @@ unfolding lookupReply
 returns-2 c =
     let m = c .before .before .before .before .before .before in
     let a = m .before .before .before .args in
-    let h = m .read .ensures .1 (c .before .before .before .enum-told .given .1) in
+    let h = m .read .ensures .1 .0 (c .before .before .before .enum-told .given .1) in
     let e = c .look-up-asked .ensures (h .contents) (h .describes) in
     (reply-found (λ I. lookupOf I (a .s0 ∷ a .s1 ∷ a .s2 ∷ a .s3 ∷ [])) h e, λ b z. lookup-holds h (a .s0 ∷ a .s1 ∷ a .s2 ∷ a .s3 ∷ []) b (sym e ∙ z))
 

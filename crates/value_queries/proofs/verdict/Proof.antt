@@ -23,7 +23,7 @@ slice-aggregate-judge c = search needs
 judge-requires : tie.Need-judge-requires
 judge-requires c κs =
     let m = c .before .before .before .before .before in
-    let h = m .read .ensures .1 (c .before .before .enum-told .given .1) in
+    let h = m .read .ensures .1 .0 (c .before .before .enum-told .given .1) in
     (h .contents, h .describes)
 
 returns : tie.Need-returns
@@ -40,7 +40,7 @@ unfolding verdictReply
 returns-2 c =
     let m = c .before .before .before .before .before .before in
     let a = m .before .before .before .args in
-    let h = m .read .ensures .1 (c .before .before .before .enum-told .given .1) in
+    let h = m .read .ensures .1 .0 (c .before .before .before .enum-told .given .1) in
     let e = c .judge .ensures (h .contents) (h .describes) in
     (reply-found (λ I. judgement (verdictOf I)) h e, λ b z. verdict-holds h b (sym e ∙ z))
 

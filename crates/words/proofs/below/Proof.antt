@@ -12,9 +12,6 @@ returns : tie.Need-returns
 unfolding sets.below
 returns c = rw (c .if1 .taken)
 
-shl-result : tie.Need-shl-result
-shl-result c = search needs
-
 sub-result : tie.Need-sub-result
 sub-result c = let e = power-word 32 (c .before .args .s) (search needs) in omega (arith, e, pow-pos (c .before .args .s))
 
@@ -23,4 +20,8 @@ unfolding sets.below
 returns-2 c = ap (λ z. z - 1) (power-word 32 (c .before .args .s) (search needs))
 
 pub below-spec : {M : Type 1} → statement M
-below-spec = tie.close (tie.spec returns shl-result sub-result returns-2)
+below-spec = tie.close (tie.spec
+    returns
+    (λ c. search needs)
+    sub-result
+    returns-2)

@@ -4,12 +4,11 @@ use borrow.Author.Needs.{needs}
 use Rattle.words.proofs.insert.Statement.{statement}
 use Rattle.words.proofs.insert.Tie as tie
 
-shl-result : tie.Need-shl-result
-shl-result c = search needs
-
 returns : tie.Need-returns
 unfolding sets.insert
 returns c = rw (power-word 32 (c .args .t) (c .pre))
 
 pub insert-spec : {M : Type 1} → statement M
-insert-spec = tie.close (tie.spec shl-result returns)
+insert-spec = tie.close (tie.spec
+    (λ c. search needs)
+    returns)

@@ -4,12 +4,11 @@ use borrow.Author.Needs.{needs}
 use Rattle.words.proofs.member.Statement.{statement}
 use Rattle.words.proofs.member.Tie as tie
 
-shr-result : tie.Need-shr-result
-shr-result c = search needs
-
 returns : tie.Need-returns
 unfolding sets.digit
 returns c = refl
 
 pub member-spec : {M : Type 1} → statement M
-member-spec = tie.close (tie.spec shr-result returns)
+member-spec = tie.close (tie.spec
+    (λ c. search needs)
+    returns)

@@ -11,10 +11,10 @@ use Rattle.answer_text.proofs.entries.instrument_classes.Statement.{sta
 use Rattle.answer_text.proofs.entries.instrument_classes.Tie as tie
 
 lines : (c : tie.After-class-text) (k : Contents) → let a = c .before .before .before .args in Describes (whole (a .t) (a .nexts .now)) k → Spelled (c .class-text .result) (classLines (instrumentOf k))
-lines c k d = spelled _ _ (c .class-text .ensures _ k d (c .before .all-classes .ensures k d)) (omega (arith, classes-length k (d .promised)))
+lines c k d = spelled _ _ (c .class-text .ensures _ k d (c .before .all-root-classes .ensures k d)) (omega (arith, classes-length k (d .promised)))
 
 class-text-requires : tie.Need-class-text-requires
-class-text-requires c κs = let (k, d) = c .before .before .pre in (_, k, d, c .all-classes .ensures k d)
+class-text-requires c κs = let (k, d) = c .before .before .pre in (_, k, d, c .all-root-classes .ensures k d)
 
 put-requires : tie.Need-put-requires
 put-requires c κs = let p = c .before .before .before .before .pre in (_, lines (c .before) (p .0) (p .1))

@@ -14,9 +14,6 @@ Inv-loop line from values₀ count₀ at₀ values count at = Taken line from at
 abbrev μ-loop : tie.MeasureT-loop
 μ-loop line from values₀ count₀ at₀ values count at = length line + 1 - at
 
-loop-holds : tie.Need-loop-holds Inv-loop μ-loop
-loop-holds c = taken-start _ _ _ (search needs) (c .before .pre)
-
 number-between-requires : tie.Need-number-between-requires Inv-loop μ-loop
 number-between-requires c κs = let w = c .word-end .ensures .clear in (w .after, w .within)
 
@@ -40,16 +37,13 @@ loop-again c =
     taken-more _ _ t (w .word-end .ensures) _ (sym (c .before .before .v .given .1) ∙ n .number-between .ensures)
     (omega (arith, t .few, c .if1 .left))
 
-returns-3 : tie.Need-returns-3 Inv-loop μ-loop
-returns-3 c = given-reads _ _ _ (taken-end _ _ (c .before .loop .inv) (omega arith))
-
 pub read-numbers-spec : {M : Type 1} → statement M
 read-numbers-spec =
     tie.close
     (tie.spec
     Inv-loop
     μ-loop
-    loop-holds
+    (λ c. taken-start _ _ _ (search needs) (c .before .pre))
     (λ c κs. omega arith)
     number-between-requires
     (λ c. search needs)
@@ -64,4 +58,4 @@ read-numbers-spec =
     (λ c. omega (arith, c .before .before .before .before .before .word-end .ensures .clear .within))
     (λ c. omega (arith, c .before .before .before .before .before .word-end .ensures .clear .after, c .before .before .before .before .before .word-end .ensures .clear .within))
     loop-again
-    returns-3)
+    (λ c. given-reads _ _ _ (taken-end _ _ (c .before .loop .inv) (omega arith))))

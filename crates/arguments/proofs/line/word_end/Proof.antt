@@ -12,28 +12,16 @@ Inv-loop line from at₀ at = Unspaced line from at
 abbrev μ-loop : tie.MeasureT-loop
 μ-loop line from at₀ at = length line - at
 
-loop-holds : tie.Need-loop-holds Inv-loop μ-loop
-loop-holds c = unspaced-start _ _ (c .pre)
-
-returns : tie.Need-returns Inv-loop μ-loop
-returns c = ends-space _ _ _ (c .before .before .before .loop .inv) (omega arith) (c .if1 .taken)
-
-loop-again : tie.Need-loop-again Inv-loop μ-loop
-loop-again c = unspaced-more _ _ _ (c .before .before .before .loop .inv) (omega arith) (c .if1 .left)
-
-returns-2 : tie.Need-returns-2 Inv-loop μ-loop
-returns-2 c = ends-line _ _ _ (c .before .loop .inv) (omega arith)
-
 pub word-end-spec : {M : Type 1} → statement M
 word-end-spec =
     tie.close
     (tie.spec
     Inv-loop
     μ-loop
-    loop-holds
+    (λ c. unspaced-start _ _ (c .pre))
     (λ c. omega arith)
-    returns
+    (λ c. ends-space _ _ _ (c .before .before .before .loop .inv) (omega arith) (c .if1 .taken))
     (λ c. omega arith)
     (λ c. omega arith)
-    loop-again
-    returns-2)
+    (λ c. unspaced-more _ _ _ (c .before .before .before .loop .inv) (omega arith) (c .if1 .left))
+    (λ c. ends-line _ _ _ (c .before .loop .inv) (omega arith)))

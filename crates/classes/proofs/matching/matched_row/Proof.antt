@@ -44,12 +44,6 @@ loop-again c =
           (c .covered .ensures ∙ rw (l .before .complement .ensures)),
     )
 
-returns : tie.Need-returns Inv-loop μ-loop
-returns c = matching-none _ _ _ _ _ _ (c .before .before .loop .inv .1) (c .if1 .taken)
-
-returns-2 : tie.Need-returns-2 Inv-loop μ-loop
-returns-2 c = matching-end _ _ _ _ _ _ (c .before .loop .inv .1) (omega arith)
-
 pub matched-row-spec : {M : Type 1} → statement M
 matched-row-spec =
     tie.close
@@ -59,11 +53,11 @@ matched-row-spec =
     (λ c κs. c .before .pre .0 .most-states)
     (λ c. omega arith)
     loop-holds
-    returns
+    (λ c. matching-none _ _ _ _ _ _ (c .before .before .loop .inv .1) (c .if1 .taken))
     successors-requires
     image-requires
     covered-requires
     (λ c. omega arith)
     (λ c. omega arith)
     loop-again
-    returns-2)
+    (λ c. matching-end _ _ _ _ _ _ (c .before .loop .inv .1) (omega arith)))

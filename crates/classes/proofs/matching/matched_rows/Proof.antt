@@ -4,17 +4,17 @@ use native.Mathlib.Omega.{arith}
 use Prim.Native.Nat.{_-_}
 use borrow.Author.Needs.{needs}
 use Rattle.words.specs.Sets.{built}
-use Rattle.classes.specs.Loops.{Filling}
+use Rattle.loops.specs.Written.{Filling}
 use Rattle.classes.specs.Matching as matching
-use Rattle.classes.specs.Rows.{rel, rows}
+use Rattle.classes.specs.Rows.{rel, rows, padded}
 use Rattle.classes.proofs.Row.{cut-narrow, cut-test}
-use Rattle.classes.proofs.Loops.{filling-none, filling-more, filling-end}
+use Rattle.loops.proofs.Written.{filling-start, filling-more, filling-end}
 use Rattle.classes.proofs.matching.matched_rows.Statement.{statement}
 use Rattle.classes.proofs.matching.matched_rows.Tie as tie
 
 abbrev Inv-loop : tie.InvT-loop
 Inv-loop succ states inputs r fail all result₀ x₀ result x =
-    Filling states (λ x. built states (λ y. rel r x y && matching.matchedBy states inputs succ r fail x y)) result x
+    Filling result₀ 0 states (λ x. built states (λ y. rel r x y && matching.matchedBy states inputs succ r fail x y)) x result
 
 abbrev μ-loop : tie.MeasureT-loop
 μ-loop succ states inputs r fail all result₀ x₀ result x = states - x
@@ -33,11 +33,11 @@ loop-again c =
     let i = c .before in
     let t = i .before .before in
     let l = t .before in
-    filling-more (l .loop .inv) (l .before .before .before .pre .most-states) (t .loop-test .taken)
+    filling-more (l .loop .inv) (t .loop-test .taken) (omega arith)
     (c .matched-row .ensures ∙ rw (i .intersection .ensures, l .before .below .ensures) (cut-test _ _ _))
 
 returns : tie.Need-returns Inv-loop μ-loop
-unfolding matching.matchedRows rows
+unfolding matching.matchedRows rows padded
 returns c = filling-end (c .before .loop .inv) (c .loop-test .left)
 
 pub matched-rows-spec : {M : Type 1} → statement M
@@ -47,7 +47,7 @@ matched-rows-spec =
     Inv-loop
     μ-loop
     (λ c κs. c .before .pre .most-states)
-    (λ c. filling-none _ _)
+    (λ c. filling-start)
     (λ c. omega arith)
     (λ c. omega (arith, c .before .before .before .before .pre .most-states))
     (λ c κs. tt)

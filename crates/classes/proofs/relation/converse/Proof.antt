@@ -1,7 +1,6 @@
 use mathlib.Core.Path.{_∙_}
 use native.Mathlib.Omega.{arith}
 use Prim.Native.Nat.{_-_}
-use borrow.Author.Needs.{needs}
 use Rattle.classes.specs.Changed.{Turning}
 use Rattle.classes.specs.Matching as matching
 use Rattle.classes.specs.Rows.{rows}

@@ -3,21 +3,6 @@ use Rattle.classes.proofs.Ruled.{ruled-ex}
 use Rattle.classes.proofs.rule.rel_ex.Statement.{statement}
 use Rattle.classes.proofs.rule.rel_ex.Tie as tie
 
-matched-rows-requires : tie.Need-matched-rows-requires
-matched-rows-requires c κs = search needs
-
-converse-requires : tie.Need-converse-requires
-converse-requires c κs = search needs
-
-matched-rows-requires-2 : tie.Need-matched-rows-requires-2
-matched-rows-requires-2 c κs = search needs
-
-converse-requires-2 : tie.Need-converse-requires-2
-converse-requires-2 c κs = search needs
-
-ruled-requires : tie.Need-ruled-requires
-ruled-requires c κs = search needs
-
 returns : tie.Need-returns
 returns c =
     let f = c .before .before .before in
@@ -31,9 +16,9 @@ pub rel-ex-spec : {M : Type 1} → statement M
 rel-ex-spec =
     tie.close
     (tie.spec
-    matched-rows-requires
-    converse-requires
-    matched-rows-requires-2
-    converse-requires-2
-    ruled-requires
+    (λ c κs. search needs)
+    (λ c κs. search needs)
+    (λ c κs. search needs)
+    (λ c κs. search needs)
+    (λ c κs. search needs)
     returns)

@@ -6,17 +6,17 @@ use Prim.Native.Nat.{_-_, _^_, _<_}
 use borrow.Author.Needs.{needs}
 use Rattle.words.specs.Sets.{built}
 use Rattle.words.proofs.Members.{intersection-lt}
-use Rattle.classes.specs.Loops.{Filling}
+use Rattle.loops.specs.Written.{Filling}
 use Rattle.classes.specs.Matching as matching
-use Rattle.classes.specs.Rows.{rows}
-use Rattle.classes.proofs.Loops.{filling-none, filling-more, filling-end}
+use Rattle.classes.specs.Rows.{rows, padded}
+use Rattle.loops.proofs.Written.{filling-start, filling-more, filling-end}
 use Rattle.classes.proofs.Row.{cut-narrow, ruled-row}
 use Rattle.classes.proofs.rule.ruled.Statement.{statement}
 use Rattle.classes.proofs.rule.ruled.Tie as tie
 
 abbrev Inv-loop : tie.InvT-loop
 Inv-loop compared states r pass fail forth back all result₀ x₀ result x =
-    Filling states (λ x. built states (matching.rules compared r pass fail forth back x)) result x
+    Filling result₀ 0 states (λ x. built states (matching.rules compared r pass fail forth back x)) x result
 
 abbrev μ-loop : tie.MeasureT-loop
 μ-loop compared states r pass fail forth back all result₀ x₀ result x = states - x
@@ -43,13 +43,13 @@ loop-again c =
     let t = o .before .before in
     let l = t .before in
     let a = l .before .before .before .args in
-    filling-more (l .loop .inv) (l .before .before .before .pre .0) (t .loop-test .taken)
+    filling-more (l .loop .inv) (t .loop-test .taken) (omega arith)
     (c .kept .ensures
     ∙ ruled-row _ _ _ _ _ _ _ (λ y. eqb (getD (a .compared .now) (l .loop .x) 0) (getD (a .compared .now) y 0))
     (o .intersection .ensures ∙ rw (l .before .below .ensures)) (s .same-outputs .ensures ∙ rw (s .before .intersection3 .ensures, m .intersection2 .ensures)))
 
 returns : tie.Need-returns Inv-loop μ-loop
-unfolding matching.ruled rows
+unfolding matching.ruled rows padded
 returns c = filling-end (c .before .loop .inv) (c .loop-test .left)
 
 pub ruled-spec : {M : Type 1} → statement M
@@ -59,7 +59,7 @@ ruled-spec =
     Inv-loop
     μ-loop
     (λ c κs. omega arith)
-    (λ c. filling-none _ _)
+    (λ c. filling-start)
     (λ c. omega arith)
     (λ c. omega arith)
     (λ c κs. tt)

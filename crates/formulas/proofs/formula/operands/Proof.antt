@@ -2,6 +2,7 @@
 use mathlib.Core.Path.{refl, sym, ap, _∙_}
 use borrow.Author.Needs.{needs}
 use Prim.Native.Nat.{ℕ, zero-le}
+use Rattle.meaning.specs.Atoms.{onSignal}
 use Rattle.meaning.specs.Nodes.{atom, neg, or, ex, eg, eu}
 use Rattle.meaning.specs.File.Parser.{Got}
 use Rattle.meaning.specs.File.Grammar.{named, lessThan, operands, limits}
@@ -30,7 +31,7 @@ returns-2 c =
     let start′ = c .before .before .before .before in
     let match′ = c .before .before .match in
     c .unary .ensures ∙ ap (mapped (oneOperand 1)) (c .before .named .ensures)
-    ∙ one atom 1 (λ a. refl) (named limits (a .w) (a .driven) (a .file .now) (a .from .at))
+    ∙ one (λ w. atom (onSignal w)) 1 (λ a. refl) (named limits (a .w) (a .driven) (a .file .now) (a .from .at))
     ∙ ap (of start′) (sym (match′ .keys2))
 
 returns-3 : tie.Need-returns-3

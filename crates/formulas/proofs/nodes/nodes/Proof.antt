@@ -1,8 +1,8 @@
-use mathlib.Core.Path.{sym, ap, _∙_}
+use mathlib.Core.Path.{refl, sym, ap, _∙_}
+use Rattle.meaning.specs.File.Parser.{fault}
 use Rattle.cursor.specs.Answers.{got}
 use Rattle.cursor.proofs.Judged.{between-le}
-use Rattle.parsing.proofs.Steps.{goes-refused, goes-accepted}
-use Rattle.formulas.proofs.Counted.{uncounted, counted, nodes-added}
+use Rattle.formulas.proofs.Counted.{nodes-refused, nodes-none, nodes-counted}
 use borrow.Author.Needs.{needs}
 use Rattle.formulas.proofs.nodes.nodes.Statement.{statement}
 use Rattle.formulas.proofs.nodes.nodes.Tie as tie
@@ -12,25 +12,17 @@ all-nodes-requires c κs =
     (between-le _ _ _ _ _ _ _ (sym (c .before .before .before .between .ensures) ∙ ap got (c .before .count .given .1)), c .before .before .before .before .before .before .before .pre)
 
 returns : tie.Need-returns
-returns c = record { goes = λ t w d n. goes-refused _ _ _ _ _ (c .before .before .so-far .given .1) (c .no-nodes .ensures) }
+returns c = nodes-none _ _ _ _ _ _ _ (c .before .before .so-far .given .1) (c .no-nodes .ensures)
 
 returns-2 : tie.Need-returns-2
 returns-2 c =
-    record {
-      goes =
-          λ t w d n. goes-accepted _ _ _ _ (c .before .before .before .before .before .enum-told .given .1)
-          (uncounted _ _ _ _ _ _ _ _ (sym (c .before .before .before .before .between .ensures) ∙ ap got (c .before .before .r .given .1)) (c .no-nodes2 .ensures));
-    }
+    let b = sym (c .before .before .before .before .between .ensures) ∙ ap got (c .before .before .r .given .1) in
+    nodes-counted _ _ _ _ _ _ _ (c .before .before .before .before .before .enum-told .given .1) b (nodes-refused _ _ (fault _) (c .no-nodes2 .ensures) refl)
 
 returns-3 : tie.Need-returns-3
 returns-3 c =
-    let all = c .all-nodes .ensures in
-    record {
-      goes =
-          λ t w d n. goes-accepted _ _ _ _ (c .before .before .before .before .before .enum-told .given .1)
-          (counted _ _ _ _ _ _ _ _ _ (sym (c .before .before .before .before .between .ensures) ∙ ap got (c .before .before .count .given .1))
-          (nodes-added t _ _ _ (c .all-nodes .result) _ _ w d n (all .1) (all .0)));
-    }
+    let b = sym (c .before .before .before .before .between .ensures) ∙ ap got (c .before .before .count .given .1) in
+    nodes-counted _ _ _ _ _ _ _ (c .before .before .before .before .before .enum-told .given .1) b (c .all-nodes .ensures)
 
 pub nodes-spec : {M : Type 1} → statement M
 nodes-spec =

@@ -2,6 +2,7 @@
 use mathlib.Core.Path.{_≡_, refl, sym, ap, _∙_}
 use mathlib.Core.List.{List}
 use lib.ListN.{length, length-replicate}
+use lib.Seq.{sets}
 use native.Mathlib.Omega.{arith}
 use borrow.Author.Needs.{needs}
 use Prim.Native.Nat.{ℕ, _*_, _-_, _≤_}
@@ -12,9 +13,12 @@ use Rattle.instrument.specs.Layout.{rows}
 use Rattle.instrument.proofs.Rows.{rows-length}
 use Rattle.parsing.specs.Stages.{mapped}
 use Rattle.parsing.specs.Steps.{moved}
+use Rattle.parsing.proofs.Faults.{before-whole}
 use Rattle.parsing.proofs.Parsers.{was, was-fault}
-use Rattle.formulas.specs.Formulas.{startBy, startArray}
+use Rattle.parsing.proofs.Steps.{answers-found}
+use Rattle.formulas.specs.Formulas.{startBy, startsIn}
 use Rattle.formulas.proofs.Layouts.{start-more}
+use Rattle.formulas.proofs.Counted.{starts-refused}
 use Rattle.formulas.proofs.starts.all_starts.Statement.{statement}
 use Rattle.formulas.proofs.starts.all_starts.Tie as tie
 
@@ -42,11 +46,11 @@ start-requires c κs =
 
 returns : tie.Need-returns Inv-loop μ-loop
 returns c =
-    let start′ = c .before .before .before .before .start in
-    let loop-test′ = c .before .before .before .before .before .before .loop-test in
-    let loop′ = c .before .before .before .before .before .before .before .loop in
-    let stopped = was-fault (λ vs. done) _ _ (sym (ap moved (c .before .r .given .1)) ∙ start′ .ensures .0) in
-    (sym (ap (mapped startArray) (stop _ _ _ _ _ _ _ _ _ _ (loop′ .inv .1) (loop-test′ .taken) _ stopped)), refl)
+    let start′ = c .before .before .before .before .before .start in
+    let loop-test′ = c .before .before .before .before .before .before .before .loop-test in
+    let loop′ = c .before .before .before .before .before .before .before .before .loop in
+    let stopped = was-fault (λ vs. done) _ _ (sym (ap moved (c .before .before .r .given .1)) ∙ start′ .ensures .0) in
+    starts-refused _ _ _ (c .no-starts .ensures) (stop _ _ _ _ _ _ _ _ _ _ (loop′ .inv .1) (loop-test′ .taken) _ stopped)
 
 loop-again : tie.Need-loop-again Inv-loop μ-loop
 loop-again c =
@@ -56,14 +60,16 @@ loop-again c =
     let w = was (λ vs. done) _ _ _ (sym (ap moved (c .before .next .given .1)) ∙ start′ .ensures .0) in (
       omega arith,
       more _ _ _ _ _ _ _ _ _ _ (loop′ .inv .1) _ (loop-test′ .taken) (w .value) _ (w .is)
-          (λ ss n h. start-more _ _ _ _ _ ss (w .value) n (start′ .ensures .1 .all _ _ (w .is)) h),
+          (λ ss n h. start-more _ _ _ _ _ ss (w .value) n (start′ .ensures .1 ∙ ap (sets (loop′ .list) _) (before-whole _ _ _ _ _ _ _ _ (w .is))) h),
     )
 
 returns-2 : tie.Need-returns-2 Inv-loop μ-loop
 returns-2 c =
     let p = c .before .loop .inv .1 in
     let e = end _ _ _ _ _ _ _ _ _ _ p (omega arith) in
-    (ap (λ l. found l (c .before .loop .place .at)) (p .held) ∙ sym (ap (mapped startArray) e), refl)
+    let n : c .before .before .before .args .count ≡ length (p .seen) = omega (arith, p .long) in
+    answers-found _ _ _ _
+    ((λ i. found (record { many = n i; array = p .held i }) (c .before .loop .place .at)) ∙ sym (ap (mapped startsIn) e))
 
 pub all-starts-spec : {M : Type 1} → statement M
 all-starts-spec =
@@ -77,6 +83,7 @@ all-starts-spec =
     (λ c. omega arith)
     start-requires
     (λ c. search needs)
+    (λ c κs. search needs)
     returns
     (λ c. search needs)
     (λ c. omega arith)

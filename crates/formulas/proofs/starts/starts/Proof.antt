@@ -1,8 +1,8 @@
-use mathlib.Core.Path.{sym, ap, _∙_}
+use mathlib.Core.Path.{refl, sym, ap, _∙_}
+use Rattle.meaning.specs.File.Parser.{fault}
 use Rattle.cursor.specs.Answers.{got}
 use Rattle.cursor.proofs.Judged.{between-le}
-use Rattle.parsing.proofs.Steps.{goes-refused, goes-accepted}
-use Rattle.formulas.proofs.Counted.{uncounted, counted, starts-added}
+use Rattle.formulas.proofs.Counted.{starts-refused, starts-none, starts-counted}
 use borrow.Author.Needs.{needs}
 use Rattle.formulas.proofs.starts.starts.Statement.{statement}
 use Rattle.formulas.proofs.starts.starts.Tie as tie
@@ -12,25 +12,21 @@ all-starts-requires c κs =
     (between-le _ _ _ _ _ _ _ (sym (c .before .before .before .between .ensures) ∙ ap got (c .before .count .given .1)), c .before .before .before .before .before .before .before .pre)
 
 returns : tie.Need-returns
-returns c = record { goes = λ t n s m. goes-refused _ _ _ _ _ (c .before .before .so-far .given .1) (c .no-starts .ensures) }
+returns c =
+    let a = c .before .before .before .before .before .args in
+    starts-none _ _ _ (a .sizes) (a .n) _ _ (c .before .before .so-far .given .1) (c .no-starts .ensures)
 
 returns-2 : tie.Need-returns-2
 returns-2 c =
-    record {
-      goes =
-          λ t n s m. goes-accepted _ _ _ _ (c .before .before .before .before .before .enum-told .given .1)
-          (uncounted _ _ _ _ _ _ _ _ (sym (c .before .before .before .before .between .ensures) ∙ ap got (c .before .before .r .given .1)) (c .no-starts2 .ensures));
-    }
+    let a = c .before .before .before .before .before .before .before .before .args in
+    let b = sym (c .before .before .before .before .between .ensures) ∙ ap got (c .before .before .r .given .1) in
+    starts-counted _ _ _ (a .sizes) (a .n) _ _ (c .before .before .before .before .before .enum-told .given .1) b (starts-refused _ _ (fault _) (c .no-starts2 .ensures) refl)
 
 returns-3 : tie.Need-returns-3
 returns-3 c =
-    let all = c .all-starts .ensures in
-    record {
-      goes =
-          λ t n s m. goes-accepted _ _ _ _ (c .before .before .before .before .before .enum-told .given .1)
-          (counted _ _ _ _ _ _ _ _ _ (sym (c .before .before .before .before .between .ensures) ∙ ap got (c .before .before .count .given .1))
-          (starts-added t _ _ _ (c .all-starts .result) _ _ n s m (c .before .before .before .before .before .before .before .before .pre) (all .1) (all .0)));
-    }
+    let a = c .before .before .before .before .before .before .before .before .args in
+    let b = sym (c .before .before .before .before .between .ensures) ∙ ap got (c .before .before .count .given .1) in
+    starts-counted _ _ _ (a .sizes) (a .n) _ _ (c .before .before .before .before .before .enum-told .given .1) b (c .all-starts .ensures)
 
 pub starts-spec : {M : Type 1} → statement M
 starts-spec =

@@ -14,9 +14,6 @@ room : (s : tie.Start) → let a = s .args in
     (a .at) (a .out .now)
 room s = let a = s .args in room-same (mark-parts (a .c) (a .k) (a .pass) (a .fail)) (s .pre)
 
-mark-label-requires : tie.Need-mark-label-requires
-mark-label-requires c κs = room-first _ _ (room (c .before .before))
-
 labelled-requires : tie.Need-labelled-requires
 labelled-requires c κs =
     let m = c .before .before .before .before in
@@ -46,7 +43,7 @@ pub mark-text-spec : {M : Type 1} → statement M
 mark-text-spec =
     tie.close
     (tie.spec
-    mark-label-requires
+    (λ c κs. room-first _ _ (room (c .before .before)))
     (λ c. search needs)
     labelled-requires
     (λ c. search needs)

@@ -18,9 +18,6 @@ decimal-requires c κs =
 later : (c : tie.Else1) → let s = c .before .before in Room (space ++ decimal (s .args .w)) (s .args .at) (s .args .out .now)
 later c = let s = c .before .before in room-same (word-later (s .args .i) (s .args .w) (omega arith)) (s .pre)
 
-byte-requires : tie.Need-byte-requires
-byte-requires c κs = room-first space _ (later (c .before)) .fits
-
 decimal-requires-2 : tie.Need-decimal-requires-2
 decimal-requires-2 c κs = let b = c .before .before .before in room-rest space _ (later (b .before .before)) (b .byte .ensures)
 
@@ -43,7 +40,7 @@ word-text-spec =
     decimal-requires
     (λ c. search needs)
     returns
-    byte-requires
+    (λ c κs. room-first space _ (later (c .before)) .fits)
     decimal-requires-2
     (λ c. search needs)
     returns-2)

@@ -6,15 +6,6 @@ use borrow.Author.Needs.{needs}
 use Rattle.parsing.proofs.lists.signal.Statement.{statement}
 use Rattle.parsing.proofs.lists.signal.Tie as tie
 
-number-requires : tie.Need-number-requires
-number-requires c κs = search needs
-
-enum-known-r : tie.Need-enum-known-r
-enum-known-r c = search needs
-
-enum-known-v : tie.Need-enum-known-v
-enum-known-v c = search needs
-
 returns : tie.Need-returns
 returns c =
     let number′ = c .before .before .before .before .number in
@@ -29,9 +20,6 @@ returns-2 c =
 
 cast-listed : tie.Need-cast-listed
 cast-listed c = omega (arith, c .before .before .before .before .before .before .before .pre)
-
-member-requires : tie.Need-member-requires
-member-requires c κs = search needs
 
 returns-3 : tie.Need-returns-3
 returns-3 c =
@@ -62,13 +50,13 @@ pub signal-spec : {M : Type 1} → statement M
 signal-spec =
     tie.close
     (tie.spec
-    number-requires
-    enum-known-r
-    enum-known-v
+    (λ c κs. search needs)
+    (λ c. search needs)
+    (λ c. search needs)
     returns
     returns-2
     cast-listed
-    member-requires
+    (λ c κs. search needs)
     returns-3
     returns-4
     returns-5)

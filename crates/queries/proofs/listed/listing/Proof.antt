@@ -21,7 +21,7 @@ enum-told c = search needs
 write-listing-requires : tie.Need-write-listing-requires
 write-listing-requires c κs =
     let m = c .before .before .before .before .before .before in
-    let h = m .read .ensures .1 (c .before .before .before .enum-told .given .1) in
+    let h = m .read .ensures .1 .0 (c .before .before .before .enum-told .given .1) in
     (h .contents, h .describes)
 
 returns : tie.Need-returns
@@ -42,7 +42,7 @@ returns-2 c =
     let w = c .before .before in
     let m = w .before .before .before .before .before .before .before in
     let a = m .before .before .before .before .args in
-    let h = m .read .ensures .1 (w .before .before .before .before .enum-told .given .1) in
+    let h = m .read .ensures .1 .0 (w .before .before .before .before .enum-told .given .1) in
     file-answered (λ I. listed I (length (a .out .now)) (judgement (verdictOf I))) h (w .write-listing .ensures (h .contents) (h .describes))
 
 pub listing-spec : {M : Type 1} → statement M

@@ -5,7 +5,7 @@ use native.Mathlib.Omega.{arith}
 use Rattle.meaning.specs.File.Grammar.{Contents, instrumentOf}
 use Rattle.instrument.specs.Described.{Describes}
 use Rattle.instrument.specs.Outline.{whole}
-use Rattle.partitions.specs.Classes.{classesOf}
+use Rattle.partitions.specs.Classes.{rootClassesOf}
 use Rattle.answers.specs.Listing.{listingText}
 use Rattle.listing_lines.specs.Lines.{judgementFrom}
 use Rattle.report.specs.Report.{Listed, Spelled}
@@ -18,7 +18,7 @@ use Rattle.queries.proofs.listed.write_lines.Tie as tie
 
 -- what the text is made from, and that it is the listing's
 listed : (f : tie.After-combined-count) (nexts : List ℕ) (k : Contents) → let a = f .before .before .before .args in
-    Describes (whole (a .t) nexts) k → a .names ≡ classesOf (instrumentOf k)
+    Describes (whole (a .t) nexts) k → a .names ≡ rootClassesOf (instrumentOf k)
     → Listed (whole (a .t) nexts) (a .names) (f .before .merged-count .result) (f .combined-count .result) k
 listed f nexts k d e =
     let m = f .before in
@@ -32,7 +32,7 @@ combined-count-requires c κs =
     (nexts, k, d)
 
 spelled : (g : tie.After-listing-text) (nexts : List ℕ) (k : Contents) → let a = g .before .before .before .before .args in
-    Describes (whole (a .t) nexts) k → a .names ≡ classesOf (instrumentOf k)
+    Describes (whole (a .t) nexts) k → a .names ≡ rootClassesOf (instrumentOf k)
     → Spelled (g .listing-text .result) (listingText (instrumentOf k) (judgementFrom (a .holds) (a .by-marks)))
 spelled g nexts k d e =
     let a = g .before .before .before .before .args in

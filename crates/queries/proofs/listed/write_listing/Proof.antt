@@ -4,7 +4,7 @@ use Rattle.meaning.specs.File.Grammar.{Contents, instrumentOf}
 use Rattle.cursor.specs.declared.Refusal.the-variants.{MergedSize}
 use Rattle.instrument.specs.Described.{Describes}
 use Rattle.instrument.specs.Outline.{whole}
-use Rattle.merged_words.specs.Prepared.{Prepared}
+use Rattle.root_words.specs.LastNode.{RootPrepared}
 use Rattle.verdict.specs.Answers.{answerOf}
 use Rattle.answers.specs.Outcomes.{judgement, verdictOf}
 use Rattle.answers.specs.Listing.{listed}
@@ -17,20 +17,20 @@ use Rattle.queries.proofs.listed.write_listing.Statement.{statement}
 use Rattle.queries.proofs.listed.write_listing.Tie as tie
 
 -- marks and names are the instrument's, and the verdict is its
-prepared : (n : tie.After-marked-classes) (k : Contents) → let a = n .before in
+prepared : (n : tie.After-root-classes) (k : Contents) → let a = n .before in
     let x = a .before .before .before .args in
     let t = whole (x .t) (x .nexts .now) in
-    Describes t k → Prepared t (a .all-marks .result) (n .marked-classes .result) k
+    Describes t k → RootPrepared t (a .all-marks .result) (n .root-classes .result) k
 prepared n k d =
     let m = n .before .all-marks .ensures k d in
-    record { describes = d; marked = m; named = n .marked-classes .ensures k (record { describes = d; marked = m }) }
+    record { describes = d; marked = m; named = n .root-classes .ensures k (record { describes = d; marked = m }) }
 
 judged : (v : tie.After-judge-prepared) (k : Contents) → let x = v .before .before .before .before .before .args in Describes (whole (x .t) (x .nexts .now)) k
     → answerOf (v .judge-prepared .result) ≡ verdictOf (instrumentOf k)
 judged v k d = v .judge-prepared .ensures k (prepared (v .before) k d)
 
-marked-classes-requires : tie.Need-marked-classes-requires
-marked-classes-requires c κs =
+root-classes-requires : tie.Need-root-classes-requires
+root-classes-requires c κs =
     let (k, d) = c .before .before .before .pre in
     (k, record { describes = d; marked = c .all-marks .ensures k d })
 
@@ -85,7 +85,7 @@ write-listing-spec =
     tie.close
     (tie.spec
     (λ c κs. search needs)
-    marked-classes-requires
+    root-classes-requires
     judge-prepared-requires
     (λ c. search needs)
     (λ c. search needs)

@@ -1,16 +1,20 @@
-use mathlib.Core.Path.{_≡_, _∙_}
+use mathlib.Core.Path.{_≡_, sym, _∙_}
 use native.Mathlib.Omega.{arith}
 use Prim.Native.Nat.{_-_, _^_}
+use Rattle.words.specs.Sets.{union}
 use Rattle.words.proofs.Digits.{power-word}
+use Rattle.words.proofs.Built.{built-empty}
 use Rattle.meaning.specs.StepWords.{successorWord}
-use Rattle.refinement.specs.Again.{UnitedTo}
+use Rattle.loops.specs.Folded.{Folded}
+use Rattle.loops.proofs.Folded.{folded-start, folded-more, folded-end}
+use Rattle.refinement.specs.Again.{unitedTo}
 use Rattle.classes.proofs.Component.{within}
-use Rattle.refinement.proofs.United.{united-start, united-more, united-end}
+use Rattle.refinement.proofs.United.{united-more}
 use Rattle.refinement.proofs.again.all_successors.Statement.{statement}
 use Rattle.refinement.proofs.again.all_successors.Tie as tie
 
 abbrev Inv-loop : tie.InvT-loop
-Inv-loop succ states inputs x count result₀ a₀ result a = (count ≡ 2 ^ inputs) × UnitedTo states (2 ^ inputs) (successorWord inputs succ x) result a
+Inv-loop succ states inputs x count result₀ a₀ result a = (count ≡ 2 ^ inputs) × Folded (2 ^ inputs) (unitedTo states (successorWord inputs succ x)) a result
 
 abbrev μ-loop : tie.MeasureT-loop
 μ-loop succ states inputs x count result₀ a₀ result a = count - a
@@ -22,10 +26,14 @@ successors-requires c κs =
 
 loop-again : tie.Need-loop-again Inv-loop μ-loop
 loop-again c =
-    let s = c .before in
-    let l = s .before .before in
-    let p = l .before .before .pre in
-    (l .loop .inv .0, united-more (l .loop .inv .1) (omega arith) (p .0 .narrow _ _ (p .1) (omega arith)) (c .union .ensures ∙ rw (s .successors .ensures)))
+    let l = c .before .before .before in
+    let (p, x) = l .before .before .pre in
+    let a = l .before .before .args in
+    let f = successorWord (a .inputs) (a .succ .now) (a .x) in (
+      l .loop .inv .0,
+      folded-more (l .loop .inv .1) (omega arith) (union (f (l .loop .a))) (c .union .ensures ∙ rw (c .before .successors .ensures))
+          (united-more (a .states) f (l .loop .a) (p .narrow _ _ x (omega arith))),
+    )
 
 pub all-successors-spec : {M : Type 1} → statement M
 all-successors-spec =
@@ -34,10 +42,10 @@ all-successors-spec =
     Inv-loop
     μ-loop
     (λ c. omega (arith, c .before .pre .0 .most-inputs))
-    (λ c. (power-word 64 _ (omega (arith, c .before .pre .0 .most-inputs)), united-start _ _ _))
+    (λ c. (power-word 64 _ (omega (arith, c .before .pre .0 .most-inputs)), folded-start (sym (built-empty _))))
     successors-requires
     (λ c κs. tt)
     (λ c. omega arith)
     (λ c. omega arith)
     loop-again
-    (λ c. united-end (c .before .loop .inv .1) (omega arith)))
+    (λ c. folded-end (c .before .loop .inv .1) (omega arith)))

@@ -5,18 +5,18 @@ use borrow.Author.Needs.{needs}
 use Rattle.words.specs.Sets.{has, built}
 use Rattle.meaning.specs.Tests.{anyBelow}
 use Rattle.meaning.specs.StepWords.{successorWord}
-use Rattle.classes.specs.Loops.{Filling}
-use Rattle.classes.specs.Rows.{rows}
+use Rattle.loops.specs.Written.{Filling}
+use Rattle.classes.specs.Rows.{rows, padded}
 use Rattle.classes.specs.Matching.{conversed}
 use Rattle.refinement.specs.Again as again
-use Rattle.classes.proofs.Loops.{filling-none, filling-more, filling-end}
+use Rattle.loops.proofs.Written.{filling-start, filling-more, filling-end}
 use Rattle.classes.proofs.Rows.{rel-rows, rows-same}
 use Rattle.refinement.proofs.again.predecessors.Statement.{statement}
 use Rattle.refinement.proofs.again.predecessors.Tie as tie
 
 abbrev Inv-loop : tie.InvT-loop
 Inv-loop succ states inputs result₀ x₀ result x =
-    Filling states (λ x. built states (λ v. anyBelow (2 ^ inputs) (λ a. has (successorWord inputs succ x a) v))) result x
+    Filling result₀ 0 states (λ x. built states (λ v. anyBelow (2 ^ inputs) (λ a. has (successorWord inputs succ x a) v))) x result
 
 abbrev μ-loop : tie.MeasureT-loop
 μ-loop succ states inputs result₀ x₀ result x = states - x
@@ -24,10 +24,10 @@ abbrev μ-loop : tie.MeasureT-loop
 loop-again : tie.Need-loop-again Inv-loop μ-loop
 loop-again c =
     let l = c .before .before in
-    filling-more (l .loop .inv) (l .before .before .pre .most-states) (c .before .loop-test .taken) (c .all-successors .ensures)
+    filling-more (l .loop .inv) (c .before .loop-test .taken) (omega arith) (c .all-successors .ensures)
 
 returns : tie.Need-returns Inv-loop μ-loop
-unfolding again.predecessorRows conversed rows
+unfolding again.predecessorRows conversed rows padded
 returns c =
     let e = c .before .before in
     let l = e .before in
@@ -40,7 +40,7 @@ predecessors-spec =
     (tie.spec
     Inv-loop
     μ-loop
-    (λ c. filling-none _ _)
+    (λ c. filling-start)
     (λ c κs. (c .before .before .before .pre, c .loop-test .taken))
     (λ c. omega arith)
     (λ c. let m = c .before .before .before .before .pre .most-states in search needs)

@@ -40,9 +40,6 @@ loop-again c =
     let p = l .before .before .pre in
     (omega (arith, row n, p .0 .most-states), settling-more (l .loop .inv .1) (c .look .ensures))
 
-returns : tie.Need-returns Inv-loop μ-loop
-returns c = record { looks = c .before .before .loop .inv .1; none = c .if1 .left }
-
 pub settle-spec : {M : Type 1} → statement M
 settle-spec =
     tie.close
@@ -54,4 +51,4 @@ settle-spec =
     look-requires
     loop-less
     loop-again
-    returns)
+    (λ c. record { looks = c .before .before .loop .inv .1; none = c .if1 .left }))

@@ -1,0 +1,4 @@
+pub mod Building
+pub mod Folded
+pub mod Written
+pub mod Searched
