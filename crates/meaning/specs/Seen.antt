@@ -1,5 +1,5 @@
 -- What each component of an instrument sees of the atoms, and what an atom is worth in a combined state. Answers and theorems about an
--- instrument name these, and nothing below them.
+-- instrument name these where they speak of atoms. A signal's level, on which steps depend, is `high` whatever an atom may be.
 use mathlib.Core.Bool.{Bool}
 use Prim.Native.Nat.{ℕ}
 use Rattle.meaning.specs.Atoms.{Atom, onSignal}
