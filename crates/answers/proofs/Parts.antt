@@ -10,7 +10,7 @@ use native.Mathlib.Omega.{arith}
 use Prim.Native.Nat.{ℕ, _+_, _-_}
 use Rattle.meaning.specs.File.Parser.{Got, found, fault, on}
 use Rattle.meaning.specs.File.Number.{choose}
-use Rattle.meaning.specs.File.Grammar.{Contents, limits, component, drivenBy, readFile}
+use Rattle.meaning.specs.File.Grammar.{Contents, limits, component, filled, drivenBy, readFile}
 use Rattle.meaning.specs.File.Promise.{noComponent, componentAt}
 use Rattle.meaning.specs.File.Stretches.{Stretch, stretchOf, located}
 use Rattle.answers.specs.Outcomes.{bytesOf, componentBytes}
@@ -37,7 +37,7 @@ module _ (file : List ℕ) (c : ℕ) where
     k = h .contents
 
     of-stretch : (s : Stretch) → Lies file s
-        → component limits (k .signals) (drivenBy 0 (take c (k .components))) file (s .start) ≡ found (componentAt k c) (s .end)
+        → component limits filled (k .signals) (drivenBy 0 (take c (k .components))) file (s .start) ≡ found (componentAt k c) (s .end)
         → StretchMeans file c (take (s .end - s .start) (drop (s .start) file))
     of-stretch s l r =
         let n : length (take (s .start) file) ≡ s .start = length-take-le (s .start) file (omega (arith, l .some, l .within)) in
@@ -53,7 +53,7 @@ module _ (file : List ℕ) (c : ℕ) where
               ap (λ t. take (s .start) file ++ t) (take-append-drop (s .end - s .start) (drop (s .start) file))
               ∙ take-append-drop (s .start) file;
           itself =
-              ap (λ at. component limits (k .signals) (drivenBy 0 (take c (k .components))) file at) n
+              ap (λ at. component limits filled (k .signals) (drivenBy 0 (take c (k .components))) file at) n
               ∙ (r ∙ ap (λ at. found (componentAt k c) at) (sym (ap₂ (λ a b. a + b) n m ∙ e)));
         }
 

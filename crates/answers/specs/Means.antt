@@ -22,7 +22,7 @@ use Rattle.meaning.specs.Classes.{ClassNames}
 use Rattle.meaning.specs.Merged.{mergedIndex}
 use Rattle.meaning.specs.Verdict.{Right, judged}
 use Rattle.meaning.specs.File.Parser.{found}
-use Rattle.meaning.specs.File.Grammar.{Contents, instrumentOf, limits, component, drivenBy, readFile}
+use Rattle.meaning.specs.File.Grammar.{Contents, instrumentOf, limits, component, filled, drivenBy, readFile}
 use Rattle.meaning.specs.File.Promise.{componentAt}
 use Rattle.meaning.specs.Reference.Answers.{classesAt, mergedSize}
 use Rattle.answers.specs.Outcomes.{Judgement}
@@ -120,5 +120,5 @@ pub record StretchMeans (file : List ℕ) (c : ℕ) (part : List ℕ) : Type 0 w
   pub after : List ℕ
   pub lies : before ++ (part ++ after) ≡ file
   pub itself : let k = has .contents in
-      component limits (k .signals) (drivenBy 0 (take c (k .components))) file (length before)
+      component limits filled (k .signals) (drivenBy 0 (take c (k .components))) file (length before)
       ≡ found (componentAt k c) (length before + length part)

@@ -6,7 +6,7 @@ use lib.Dec.{T}
 use Prim.Native.Nat.{ℕ}
 use Rattle.meaning.specs.Atoms.{Atom}
 use Rattle.meaning.specs.Combination.{State, Truth, index}
-use Rattle.meaning.specs.File.Grammar.{Contents, Limits, instrumentOf, whole}
+use Rattle.meaning.specs.File.Grammar.{Contents, Limits, filled, instrumentOf, whole}
 use Rattle.meaning.specs.File.Parser.{found}
 use Rattle.meaning.specs.Formula.{Formula}
 use Rattle.meaning.specs.Instrument.{Accepted, Instrument, components, rootFormula, rootNode, table}
@@ -23,7 +23,7 @@ use Rattle.meaning.proofs.File.Accepted.{accepted}
 use Rattle.meaning.proofs.File.Parsers.{reads-found}
 use Rattle.meaning.proofs.File.Reads.{reads-whole}
 
-module _ (L : Limits) (file : List ℕ) (c : Contents) (e : ℕ) (q : whole L file 0 ≡ found c e) where
+module _ (L : Limits) (file : List ℕ) (c : Contents) (e : ℕ) (q : whole L filled file 0 ≡ found c e) where
   abbrev I : Instrument
   I = instrumentOf c
 

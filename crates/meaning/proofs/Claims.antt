@@ -1,5 +1,6 @@
 -- What is proved of document 01, in the order of the demands: over its atoms (signals), what it compares (whole output words) and the classes
--- of its one root. The general theorems behind it are those of Demands, Marks/Partners and Classes/Described. The last theorem is that of document 02, 6/14.
+-- of its one root. The general theorems behind it are those of Demands, Marks/Partners and Classes/Described. Of document 02: the cases of 12/14, the spellings of 2/14 and,
+-- last, 6/14.
 use mathlib.Core.Path.{_≡_, refl}
 use mathlib.Core.Logic.{_↔_}
 use mathlib.Core.List.{List}
@@ -50,6 +51,10 @@ pub use Rattle.meaning.proofs.Verdict.{right-unique}
 pub use Rattle.meaning.proofs.Cases.{starred}
 -- 12/14: oversized, malformed and unended numbers at every field, components of 64 states
 pub use Rattle.meaning.proofs.WideCases.{wide}
+-- 2/14: a file says what it writes with empty sets filled; what follows on a state; spelled-out stays change nothing of what it says
+pub use Rattle.meaning.proofs.File.Filled.{read-filled}
+pub use Rattle.meaning.proofs.File.Spelling.{says-filled, follows, stay-filled, same-filled, same-said}
+pub use Rattle.meaning.proofs.StayCases.{stays}
 -- what the guard and the promise of no dead end are for
 pub use Rattle.meaning.proofs.Counterexamples.{unguarded, guarded, dead-end}
 

@@ -16,6 +16,9 @@ pub mod Reads
 pub mod Accepted
 pub mod Limit
 pub mod Faults
+-- Two spellings of a stay.
+pub mod Filled
+pub mod Spelling
 -- How long a good file is: as its numbers are, at most `longestFile` bytes, and one has that many.
 pub mod Sizes
 pub mod Longest

@@ -10,6 +10,7 @@ pub mod Verdict
 pub mod Demands
 pub mod Cases
 pub mod WideCases
+pub mod StayCases
 pub mod Counterexamples
 pub mod Claims
 pub mod AnyWidth

@@ -165,10 +165,10 @@ cases =
     -- an output that is an own input, and one that another component drives
     ∷ row (1 ∷ 1 ∷ 1 ∷ 1 ∷ 0 ∷ 1 ∷ 0 ∷ []) (refused 5)
     ∷ row (2 ∷ 1 ∷ 1 ∷ 0 ∷ 1 ∷ 0 ∷ 0 ∷ 1 ∷ 1 ∷ 0 ∷ 1 ∷ 0 ∷ []) (refused 5)
-    -- an output word and a successor set with a bit too high, an empty successor set
+    -- an output word and a successor set with a bit too high; an empty set is no fault (specs/StayCases), so that the file ends after it
     ∷ row (1 ∷ 0 ∷ 1 ∷ 0 ∷ 0 ∷ 1 ∷ []) (refused 6)
     ∷ row (1 ∷ 0 ∷ 1 ∷ 0 ∷ 0 ∷ 0 ∷ 2 ∷ []) (refused 6)
-    ∷ row (1 ∷ 0 ∷ 1 ∷ 0 ∷ 0 ∷ 0 ∷ 0 ∷ []) (refused 6)
+    ∷ row (1 ∷ 0 ∷ 1 ∷ 0 ∷ 0 ∷ 0 ∷ 0 ∷ []) (refused 1)
     -- an unknown kind, before its operands, and an operand that is the node itself
     ∷ row (1 ∷ 0 ∷ 1 ∷ 0 ∷ 0 ∷ 0 ∷ 1 ∷ 1 ∷ 7 ∷ []) (refused 7)
     ∷ row (1 ∷ 0 ∷ 1 ∷ 0 ∷ 0 ∷ 0 ∷ 1 ∷ 1 ∷ 2 ∷ 0 ∷ []) (refused 7)

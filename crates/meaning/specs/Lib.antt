@@ -29,5 +29,6 @@ pub mod Reference
 pub mod Roots
 -- Cases of document 02
 pub mod WideCases
+pub mod StayCases
 -- The steps of one component as the engines are lent them
 pub mod StepWords

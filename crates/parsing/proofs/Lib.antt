@@ -1,4 +1,5 @@
 pub mod Stores
+pub mod Stays
 pub mod Faults
 pub mod Signals
 pub mod Parsers

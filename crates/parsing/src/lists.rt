@@ -7,10 +7,11 @@ use cursor::Wide;
 use instrument::Instrument;
 use state_words::StateSet;
 ghost use mathlib.Core.Path.{_≡_};
-ghost use Prim.Native.Nat.{_+_, _≤_};
+ghost use Prim.Native.Nat.{_+_, _*_, _^_, _≤_, _<_};
 ghost use lib.ListN.{length};
 ghost use Rattle.meaning.specs.File.Parser.{repeat, listOf, done};
-ghost use Rattle.meaning.specs.File.Grammar.{limits, between, signal, signals, startState, withAll};
+ghost use Rattle.meaning.specs.File.Grammar.{limits, mostStates, filledSet, filledFrom, between, signal, signals, startState, withAll};
+ghost use Rattle.state_words.specs.Width.{stateBits};
 ghost use Rattle.cursor.specs.Answers.{got};
 ghost use Rattle.parsing.specs.Stages.{mapped};
 ghost use Rattle.parsing.specs.Faults.{signalsBefore, wordsBefore, startBefore};
@@ -112,33 +113,44 @@ pub fn words_between(
     Moved::To(place)
 }
 
-// So many sets of states from lo to hi.
-pub fn sets_between(
+// The successor set of state x that a word of the file means: an empty one is the state itself.
+fn filled(set: StateSet, x: usize) -> StateSet
+    requires { ⌜ x < stateBits ⌝ }
+    ensures { λ r. ⌜ r ≡ filledSet x set ⌝ }
+{
+    if state_words::empty(set) {
+        return state_words::insert(0, x);
+    }
+    set
+}
+
+// So many successor sets up to hi, of states that read so many inputs; each is stored filled.
+pub fn filled_sets(
     file: &[u8],
     from: Cursor,
     count: usize,
-    lo: StateSet,
     hi: StateSet,
+    inputs: u32,
     out: &mut [StateSet],
     base: usize,
 ) -> Moved
-    requires { ⌜ base + count ≤ length (now out) ⌝ }
-    ensures { λ r. ⌜ moved r ≡ mapped (λ vs. done) (repeat (between limits lo hi 6) count (now (file .entry)) (from .at)) ⌝ }
-    ensures { λ _. ⌜ Stored (wordsBefore lo hi count (now (file .entry)) (from .at)) base (now (out .entry)) (now (out .exit)) ⌝ }
+    requires { ⌜ (inputs ≤ limits .inputs) × (count ≤ mostStates * 2 ^ inputs) × (base + count ≤ length (now out)) ⌝ }
+    ensures { λ r. ⌜ moved r ≡ mapped (λ vs. done) (repeat (between limits 0 hi 6) count (now (file .entry)) (from .at)) ⌝ }
+    ensures { λ _. ⌜ Stored (filledFrom inputs 0 (wordsBefore 0 hi count (now (file .entry)) (from .at))) base (now (out .entry)) (now (out .exit)) ⌝ }
 {
     let mut place = from;
-    let mut i: usize = 0;
-    while i < count {
-        match place.wide_between(file, lo, hi, Refusal::Bits) {
+    let mut p: usize = 0;
+    while p < count {
+        match place.wide_between(file, 0, hi, Refusal::Bits) {
             Wide::Unread(r) => {
                 return Moved::Stopped(r);
             }
             Wide::Whole(set, next) => {
-                out[base + i] = set;
+                out[base + p] = filled(set, p >> inputs);
                 place = next;
             }
         }
-        i += 1;
+        p += 1;
     }
     Moved::To(place)
 }

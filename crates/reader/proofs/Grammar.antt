@@ -5,7 +5,7 @@ use Prim.Native.Nat.{ℕ}
 use Rattle.meaning.specs.Atoms.{Atom}
 use Rattle.meaning.specs.Nodes.{Node}
 use Rattle.meaning.specs.File.Parser.{Got, found, on, repeat}
-use Rattle.meaning.specs.File.Grammar.{Component, Contents, limits, between, components, nodes, start, finished, whole, drivenBy, readFile}
+use Rattle.meaning.specs.File.Grammar.{Component, Contents, limits, between, components, filled, nodes, start, finished, whole, drivenBy, readFile}
 use Rattle.meaning.proofs.File.Lists.{on-assoc}
 use Rattle.parsing.specs.Stages.{times}
 use Rattle.parsing.proofs.Parsers.{on-each}
@@ -55,5 +55,5 @@ module _ (file : List ℕ) where
       (λ n at e. on-assoc (between limits 0 (limits .signals) 3 file at) _ rest
       ∙ on-each (between limits 0 (limits .signals) 3 file at) _ _
       (λ W at e. ap (λ g. on g rest) (times-components file n W at)
-      ∙ on-assoc (components limits W n file at) _ rest
-      ∙ on-each (components limits W n file at) _ _ (λ cs at e. formula W cs at)))
+      ∙ on-assoc (components limits filled W n file at) _ rest
+      ∙ on-each (components limits filled W n file at) _ _ (λ cs at e. formula W cs at)))

@@ -8,7 +8,7 @@ use native.Mathlib.Omega.{arith}
 use Prim.Native.Nat.{ℕ, _≤_, _<_}
 use Rattle.meaning.specs.File.Parser.{Got, found, fault, on}
 use Rattle.meaning.specs.File.Number.{choose}
-use Rattle.meaning.specs.File.Grammar.{Contents, limits, between, component, components, drivenBy, readFile}
+use Rattle.meaning.specs.File.Grammar.{Contents, limits, between, component, components, filled, drivenBy, readFile}
 use Rattle.meaning.specs.File.Stretches.{Stretch, stretchOf, located, startOf, endOf}
 use Rattle.meaning.proofs.File.Lists.{on-assoc}
 use Rattle.cursor.specs.Answers.{number}
@@ -65,9 +65,9 @@ module _ (file : List ℕ) where
       (λ n at e. on-assoc (between limits 0 (limits .signals) 3 file at) _ _
       ∙ on-each (between limits 0 (limits .signals) 3 file at) _ _
       (λ W at e. ap (bothPlaces file) (times-components file c W at)
-      ∙ on-assoc (components limits W c file at) _ _
-      ∙ on-each (components limits W c file at) _ _
-      (λ cs at e. on-assoc (component limits W (drivenBy 0 cs) file at) _ _))))
+      ∙ on-assoc (components limits filled W c file at) _ _
+      ∙ on-each (components limits filled W c file at) _ _
+      (λ cs at e. on-assoc (component limits filled W (drivenBy 0 cs) file at) _ _))))
 
   module _ (p : Step) (g : Got Contents) (l : Laid p g) where
     places-fault : (r : ℕ) → on g (λ k at. addComponent k file at) ≡ fault r → bothPlaces file g ≡ fault r

@@ -1,15 +1,15 @@
 -- What the grammar's parsers of signal lists and components promise (specs/File/Grammar, Promise).
-use mathlib.Core.Path.{_≡_, subst, sym}
+use mathlib.Core.Path.{_≡_, _∙_, ap, refl, subst, sym}
 use mathlib.Core.Logic.{_≢_}
 use mathlib.Core.List.{List, [], _∷_}
-use lib.Dec.{T, lit<}
+use lib.Dec.{T}
 use lib.ListN.{getD, length}
-use lib.Pow.{lt-of-le-ones, pow-mono}
-use native.Mathlib.Nat.{mul-le-mul}
+use lib.Pow.{lt-of-le-ones, pow-lt, pow-mono, pow-pos}
+use native.Mathlib.Nat.{div-lt-iff-lt-mul, mul-le-mul}
 use native.Mathlib.Omega.{arith}
-use Prim.Native.Nat.{_*_, _+_, _-_, _<_, _^_, _≤_, suc, zero, ℕ}
+use Prim.Native.Nat.{_*_, _+_, _-_, _/_, _<_, _^_, _≤_, suc, zero, ℕ}
 use Rattle.words.specs.Sets.{has}
-use Rattle.meaning.specs.File.Grammar.{Component, Limits, between, component, components, signal, signals, withAll}
+use Rattle.meaning.specs.File.Grammar.{Component, Limits, between, component, components, filled, filledFrom, filledSet, signal, signals, withAll}
 use Rattle.meaning.specs.File.Parser.{done, repeat}
 use Rattle.meaning.specs.File.Promise.{PromisedComponent, Signals, Within}
 use Rattle.meaning.specs.Tests.{All, listed}
@@ -54,9 +54,23 @@ module _ (W taken : ℕ) (next : ℕ → ℕ → ℕ) (higher : (low v : ℕ) �
         free = λ w o t. all-member (λ v. (v < W) × (T (has taken v) → ⊥)) vs each w o .1 t;
       }
 
--- a successor set has a member, and none past the states
-set-word : (lo s v : ℕ) → 0 < lo → Within lo (2 ^ s - 1) v → (v ≢ 0) × (v < 2 ^ s)
-set-word lo s v l h = (λ z. omega (arith, z, h .0), lt-of-le-ones s (h .1))
+-- a filled successor set has a member, and none past the states
+set-filled : (s x v : ℕ) → x < s → v < 2 ^ s → (filledSet x v ≢ 0) × (filledSet x v < 2 ^ s)
+set-filled s x zero l h = (λ z. omega (arith, z, pow-pos x), pow-lt {j = s} l)
+set-filled s x (suc v) l h = (λ z. omega arith, h)
+
+-- the sets from place p on, of states below s
+sets-filled : (s i p : ℕ) (vs : List ℕ) → p + length vs ≤ s * 2 ^ i → All (λ v. v < 2 ^ s) vs
+    → All (λ v. (v ≢ 0) × (v < 2 ^ s)) (filledFrom i p vs)
+sets-filled s i p [] l h = tt
+sets-filled s i p (v ∷ vs) l h = (
+  set-filled s (p / 2 ^ i) v (div-lt-iff-lt-mul (pow-pos i) .1 (omega arith)) (h .0),
+  sets-filled s i (suc p) vs (omega arith) (h .1),
+)
+
+pub filled-length : (i p : ℕ) (vs : List ℕ) → length (filledFrom i p vs) ≡ length vs
+filled-length i p [] = refl
+filled-length i p (v ∷ vs) = ap suc (filled-length i (suc p) vs)
 
 module _ (L : Limits) where
   pub reads-signals : (W taken k n : ℕ) → k ≤ n → Reads (signals L W taken k) (n * width L) (SignalsRead W taken k)
@@ -81,7 +95,7 @@ module _ (L : Limits) where
     -- none of its outputs was driven before
     pub free : (w : ℕ) → T (listed (c .outputs) w) → T (has driven w) → ⊥
 
-  pub reads-component : (W driven : ℕ) → Reads (component L W driven) (componentNumbers * width L) (ComponentRead W driven)
+  pub reads-component : (W driven : ℕ) → Reads (component L filled W driven) (componentNumbers * width L) (ComponentRead W driven)
   unfolding component
   reads-component W driven =
       weaker (omega arith) (λ c h. h)
@@ -91,9 +105,9 @@ module _ (L : Limits) where
       reads-bind (reads-between L _ _ _) (λ o ho.
       reads-bind (reads-signals W _ o (L .outputs) (ho .1)) (λ outputs qo.
       reads-bind (reads-words _ _ s (L .states) (λ v. v < 2 ^ o) (λ v h. lt-of-le-ones o (h .1)) (hs .1)) (λ outs qw.
-      reads-bind (reads-words _ _ (s * 2 ^ i) (L .states * 2 ^ L .inputs) (λ v. (v ≢ 0) × (v < 2 ^ s))
-      (λ v h. set-word _ s v (lit< tt) h) (mul-le-mul (hs .1) (pow-mono (hi .1)))) (λ nexts qn.
-      reads-give (ComponentRead W driven) (record { states = s; inputs = inputs; outputs = outputs; outs = outs; nexts = nexts })
+      reads-bind (reads-words _ _ (s * 2 ^ i) (L .states * 2 ^ L .inputs) (λ v. v < 2 ^ s)
+      (λ v h. lt-of-le-ones s (h .1)) (mul-le-mul (hs .1) (pow-mono (hi .1)))) (λ nexts qn.
+      reads-give (ComponentRead W driven) (filled (record { states = s; inputs = inputs; outputs = outputs; outs = outs; nexts = nexts }))
       (record {
         itself =
             record {
@@ -105,8 +119,10 @@ module _ (L : Limits) where
               own = λ w p q. qo .free w p (with-all-listed driven inputs w q);
               outCount = qw .0;
               outs = subst (λ o. All (λ v. v < 2 ^ o) outs) (sym (qo .long)) (qw .1);
-              nextCount = subst (λ i. length nexts ≡ s * 2 ^ i) (sym (qi .long)) (qn .0);
-              nexts = qn .1;
+              nextCount = filled-length (length inputs) 0 nexts ∙ subst (λ i. length nexts ≡ s * 2 ^ i) (sym (qi .long)) (qn .0);
+              nexts =
+                  sets-filled s (length inputs) 0 nexts
+                  (subst (λ i. 0 + length nexts ≤ s * 2 ^ i) (sym (qi .long)) (omega (arith, qn .0))) (qn .1);
             };
         free = λ w p q. qo .free w p (with-all-set driven inputs w q);
       })))))))))
@@ -143,7 +159,7 @@ module _ (L : Limits) where
           → T (listed (getD cs j none .outputs) w) → ⊥
 
     pub reads-components : (n : ℕ) → n ≤ L .components
-        → Reads (components L W n) (L .components * (componentNumbers * width L)) (ComponentsRead n)
+        → Reads (components L filled W n) (L .components * (componentNumbers * width L)) (ComponentsRead n)
     reads-components n l =
         weaker (omega arith) (λ cs h. record { long = h .long; each = each-component 0 cs (h .items); apart = run-apart 0 cs (h .items) })
-        (reads-list (component L W) (λ driven c. withAll driven (c .outputs)) (ComponentRead W) (reads-component W) n (L .components) l 0)
+        (reads-list (component L filled W) (λ driven c. withAll driven (c .outputs)) (ComponentRead W) (reads-component W) n (L .components) l 0)

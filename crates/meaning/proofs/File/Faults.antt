@@ -8,7 +8,7 @@ use lib.ListN.{drop, length}
 use Prim.Native.Nat.{_%_, _+_, suc, zero, ℕ}
 use Rattle.words.specs.Sets.{has}
 use Rattle.meaning.specs.Atoms.{Atom, onSignal}
-use Rattle.meaning.specs.File.Grammar.{Limits, between, binary, component, components, drivenBy, earlier, finished, lessThan, limits}
+use Rattle.meaning.specs.File.Grammar.{Limits, between, binary, component, components, drivenBy, earlier, filled, finished, lessThan, limits}
 use Rattle.meaning.specs.File.Grammar.{named, node, number, operands, readFile, signal, signals, start, startState, unary, whole, withAll}
 use Rattle.meaning.specs.File.Number.{choose, groups, withHigher}
 use Rattle.meaning.specs.File.Parser.{Got, Parser, _>>=_, _>>_, demand, done, fault, found, give, listOf, on, repeat}
@@ -111,7 +111,7 @@ module _ (L : Limits) where
   faults-signals : (W taken k : ℕ) → Refuses (signals L W taken k)
   faults-signals W taken k = faults-list (signal L W taken) (λ low v. v + 1) (faults-signal W taken) k 0
 
-  faults-component : (W driven : ℕ) → Refuses (component L W driven)
+  faults-component : (W driven : ℕ) → Refuses (component L filled W driven)
   unfolding component
   faults-component W driven =
       faults-bind (faults-between _ _ _ tt) (λ s.
@@ -122,8 +122,8 @@ module _ (L : Limits) where
       faults-bind (faults-repeat (faults-between _ _ _ tt) _) (λ outs.
       faults-bind (faults-repeat (faults-between _ _ _ tt) _) (λ nexts. faults-give _)))))))
 
-  faults-components : (W k : ℕ) → Refuses (components L W k)
-  faults-components W k = faults-list (component L W) (λ driven c. withAll driven (c .outputs)) (faults-component W) k 0
+  faults-components : (W k : ℕ) → Refuses (components L filled W k)
+  faults-components W k = faults-list (component L filled W) (λ driven c. withAll driven (c .outputs)) (faults-component W) k 0
 
   faults-earlier : (k : ℕ) → Refuses (earlier L k)
   faults-earlier k = faults-less _ _ tt
@@ -154,7 +154,7 @@ module _ (L : Limits) where
   faults-finished : Refuses (finished L)
   faults-finished = record { faults = λ file at. faults-demand (leb (length file) at) _ tt .faults file at }
 
-  faults-whole : Refuses (whole L)
+  faults-whole : Refuses (whole L filled)
   unfolding whole
   faults-whole =
       faults-bind (faults-between _ _ _ tt) (λ n.
@@ -166,8 +166,8 @@ module _ (L : Limits) where
       faults-bind (faults-repeat (faults-start (map (λ c. c .states) cs)) m) (λ ss.
       faults-then faults-finished (faults-give _))))))))
 
-  pub whole-faults : (file : List ℕ) (r : ℕ) → whole L file 0 ≡ fault r → Within 1 10 r
-  whole-faults file r q = fault-within (whole L file 0) (faults-whole .faults file 0) r q
+  pub whole-faults : (file : List ℕ) (r : ℕ) → whole L filled file 0 ≡ fault r → Within 1 10 r
+  whole-faults file r q = fault-within (whole L filled file 0) (faults-whole .faults file 0) r q
 
 pub file-faults : (file : List ℕ) (r : ℕ) → readFile file ≡ fault r → Within 1 10 r
 file-faults file r q = whole-faults limits file r q

@@ -8,7 +8,7 @@ use Prim.Native.Nat.{ℕ, zero, suc, _+_, _-_, _*_, _%_, _^_, _≤_, _<_}
 use Rattle.words.specs.Sets.{has}
 use Rattle.meaning.specs.File.Parser.{Got, found, fault, Parser, Done, done, demand, on, listOf, repeat}
 use Rattle.meaning.specs.File.Number.{choose, withHigher, groups}
-use Rattle.meaning.specs.File.Grammar.{Component, limits, number, between, signal, signals, component, withAll}
+use Rattle.meaning.specs.File.Grammar.{Component, limits, number, between, signal, signals, component, filled, withAll}
 use Rattle.meaning.proofs.File.Lists.{Says, says-map, on-says, list-none, list-more}
 
 -- bytes of a number are read, and no others
@@ -99,7 +99,7 @@ module _ (file : List ℕ) where
         (λ a m k. then m (listOf item next n (next s a) file m) (λ rest e. found (a ∷ rest) e) (list-onward n (next s a) m k)
         (λ rest e j. given (a ∷ rest) e j)))
 
-  pub component-past : (W driven at : ℕ) → Says (Past at) (component limits W driven file at)
+  pub component-past : (W driven at : ℕ) → Says (Past at) (component limits filled W driven file at)
   unfolding component
   component-past W driven at =
       then-past at (between limits 1 (limits .states) 3 file at) _ (between-past 1 (limits .states) 3 at)
@@ -110,6 +110,6 @@ module _ (file : List ℕ) where
       (list-onward (signal limits W (withAll driven inputs)) (λ low v. v + 1) (signal-past W (withAll driven inputs)) o 0 n l)
       (λ outputs n l. then n (repeat (between limits 0 (2 ^ o - 1) 6) s file n) _
       (list-onward (λ (x : Done). between limits 0 (2 ^ o - 1) 6) (λ x a. x) (λ x. between-past 0 (2 ^ o - 1) 6) s done n l)
-      (λ outs n l. then n (repeat (between limits 1 (2 ^ s - 1) 6) (s * 2 ^ i) file n) _
-      (list-onward (λ (x : Done). between limits 1 (2 ^ s - 1) 6) (λ x a. x) (λ x. between-past 1 (2 ^ s - 1) 6) (s * 2 ^ i) done n l)
-      (λ nexts n l. given {A = Component} (record { states = s; inputs = inputs; outputs = outputs; outs = outs; nexts = nexts }) n l)))))))
+      (λ outs n l. then n (repeat (between limits 0 (2 ^ s - 1) 6) (s * 2 ^ i) file n) _
+      (list-onward (λ (x : Done). between limits 0 (2 ^ s - 1) 6) (λ x a. x) (λ x. between-past 0 (2 ^ s - 1) 6) (s * 2 ^ i) done n l)
+      (λ nexts n l. given {A = Component} (filled (record { states = s; inputs = inputs; outputs = outputs; outs = outs; nexts = nexts })) n l)))))))

@@ -7,7 +7,7 @@ use lib.Dec.{T, lit≤, ltb, ltb→lt}
 use lib.ListN.{length, take}
 use native.Mathlib.Omega.{arith}
 use Prim.Native.Nat.{_*_, _+_, _-_, _<_, _≤_, ℕ}
-use Rattle.meaning.specs.File.Grammar.{Limits, between, component, components, drivenBy, limits, readFile, whole, withAll}
+use Rattle.meaning.specs.File.Grammar.{Limits, between, component, components, drivenBy, filled, limits, readFile, whole, withAll}
 use Rattle.meaning.specs.File.Number.{choose}
 use Rattle.meaning.specs.File.Parser.{Got, fault, found, on}
 use Rattle.meaning.specs.File.Promise.{Promised, listingBytes}
@@ -19,7 +19,7 @@ use Rattle.meaning.proofs.File.Parsers.{Reads, reads-bind, reads-give, 
 use Rattle.meaning.proofs.File.Reads.{fileNumbers, reads-whole}
 
 -- under any limits, bytes enough for the longest file and one more
-pub settled : (L : Limits) (k : ℕ) → fileNumbers L * width L + 1 ≤ k → (file : List ℕ) → whole L (take k file) 0 ≡ whole L file 0
+pub settled : (L : Limits) (k : ℕ) → fileNumbers L * width L + 1 ≤ k → (file : List ℕ) → whole L filled (take k file) 0 ≡ whole L filled file 0
 settled L k h file = reads-whole L .same k file 0 (omega arith)
 
 -- the same refusal, or the same contents with the same end
@@ -39,7 +39,7 @@ reads-stretch c l =
     weaker (lit≤ tt) (λ s h. h)
     (reads-bind (reads-between limits _ _ _) (λ n hn.
     reads-bind (reads-between limits _ _ _) (λ W hW.
-    reads-bind (reads-list (component limits W) (λ driven c. withAll driven (c .outputs)) (ComponentRead limits W) (reads-component limits W) c
+    reads-bind (reads-list (component limits filled W) (λ driven c. withAll driven (c .outputs)) (ComponentRead limits W) (reads-component limits W) c
     (limits .components - 1) (omega arith) 0) (λ cs qc.
     reads-bind reads-place (λ start u.
     reads-bind (reads-component limits W (drivenBy 0 cs)) (λ t q.
@@ -69,8 +69,8 @@ stretch-end : (file : List ℕ) (c : ℕ) → Told (λ s e. s .end ≡ e) (stret
 stretch-end file c =
     told-on (told-any (between limits 1 (limits .components) 3 file 0)) (λ n at u.
     told-on (told-any (between limits 0 (limits .signals) 3 file at)) (λ W at u.
-    told-on (told-any (components limits W c file at)) (λ cs at u.
-    told-on (told-any (component limits W (drivenBy 0 cs) file at)) (λ t end u.
+    told-on (told-any (components limits filled W c file at)) (λ cs at u.
+    told-on (told-any (component limits filled W (drivenBy 0 cs) file at)) (λ t end u.
     told-found _ (record { start = at; end = end }) end refl))))
 
 pub located-end : (file : List ℕ) (c : ℕ) → endOf (located file c) ≤ listingBytes

@@ -3,9 +3,9 @@
 use mathlib.Core.Path.{_∙_, _≡_, ap, refl, subst, sym}
 use mathlib.Core.Logic.{inl, inr}
 use mathlib.Core.Bool.{Bool, false, true}
-use mathlib.Core.List.{List, [], _∷_}
+use mathlib.Core.List.{List, [], _∷_, map}
 use lib.Dec.{T}
-use lib.ListN.{getD, length}
+use lib.ListN.{getD, length, length-map}
 use lib.Pow.{pow-add, pow-mono}
 use native.Mathlib.Decide.{decLt}
 use native.Mathlib.Nat.{mul-le-mul, mul-le-mul-left, mul-le-mul-right}
@@ -14,8 +14,8 @@ use Prim.Native.Nat.{_*_, _+_, _-_, _/_, _<_, _^_, _≤_, max, suc, zero, ℕ}
 use Rattle.words.proofs.Members.{has-insert, has-none, insert-in, insert-out}
 use Rattle.words.specs.Sets.{has, insert}
 use Rattle.meaning.specs.Atoms.{Atom, onSignal}
-use Rattle.meaning.specs.File.Grammar.{Component, Contents, Limits, limits, readFile, whole, withAll}
-use Rattle.meaning.specs.File.Parser.{found}
+use Rattle.meaning.specs.File.Grammar.{Component, Contents, Limits, asWritten, filled, filledContents, filledFrom, filledSet, limits, readFile, whole, withAll}
+use Rattle.meaning.specs.File.Parser.{Got, fault, found}
 use Rattle.meaning.specs.File.Promise.{Promised, PromisedComponent, Signals, componentAt, longestFile, noComponent}
 use Rattle.meaning.specs.Nodes.{Earlier, Node, Operand, atom, eg, eu, ex, neg, nodeAt, of-eg, of-eu-l, of-eu-r, of-ex, of-neg}
 use Rattle.meaning.specs.Nodes.{of-or-l, of-or-r, or, top}
@@ -25,6 +25,7 @@ use Rattle.meaning.proofs.Basic.Lists.{all-map, listed-at}
 use Rattle.meaning.proofs.Basic.Rounds.{one, one-le, one-mono, sum-le, sum-mono, sumBelow}
 use Rattle.meaning.proofs.File.Accepted.{promised-at}
 use Rattle.meaning.proofs.File.Driven.{with-all-out}
+use Rattle.meaning.proofs.File.Filled.{madeOf, whole-filled}
 use Rattle.meaning.proofs.File.Members.{all-member, listed-first, listed-others}
 use Rattle.meaning.proofs.File.Parsers.{reads-found}
 use Rattle.meaning.proofs.File.Reads.{reads-whole}
@@ -306,14 +307,45 @@ module _ (L : Limits) where
           num-le (length (c .starts)) (L .starts) (p .startCount),
         )
 
+-- an empty set has no more bytes than what it is filled with
+module _ (L : Limits) where
+  set-size : (x v : ℕ) → numberBytes L v ≤ numberBytes L (filledSet x v)
+  set-size x zero = num-le L 0 (2 ^ x) (omega arith)
+  set-size x (suc v) = omega arith
+
+  sets-size : (i p : ℕ) (vs : List ℕ) → numbersBytes L vs ≤ numbersBytes L (filledFrom i p vs)
+  sets-size i p [] = omega arith
+  sets-size i p (v ∷ vs) = omega (arith, set-size (p / 2 ^ i) v, sets-size i (suc p) vs)
+
+  tables-size : (cs : List Component) → total (componentSize L) cs ≤ total (componentSize L) (map filled cs)
+  tables-size [] = omega arith
+  tables-size (c ∷ cs) = omega (arith, sets-size (length (c .inputs)) 0 (c .nexts), tables-size cs)
+
+  size-filled : (c : Contents) → contentsSize L c ≤ contentsSize L (filledContents c)
+  size-filled c = omega (arith, tables-size (c .components), ap (numberBytes L) (length-map (c .components) filled))
+
 -- under any limits, a good file is at most so long
-pub file-at-most : (L : Limits) (file : List ℕ) (c : Contents) (e : ℕ) → whole L file 0 ≡ found c e → length file ≤ longest L
-file-at-most L file c e q =
-    omega (arith, file-size L file c e q .1, contents-le L c (reads-found (reads-whole L) file 0 c e q .0))
+module _ (L : Limits) (file : List ℕ) (c : Contents) (e : ℕ) (q : whole L filled file 0 ≡ found c e) where
+  written : (w : Contents) × (whole L asWritten file 0 ≡ found w e) × (filledContents w ≡ c)
+  written = go (whole L asWritten file 0) refl (sym (whole-filled L file 0) ∙ q)
+    where
+      go : (g : Got Contents) → whole L asWritten file 0 ≡ g → madeOf filledContents g ≡ found c e
+          → (w : Contents) × (whole L asWritten file 0 ≡ found w e) × (filledContents w ≡ c)
+      go (found w h) p s = (w, p ∙ cc, cc)
+      go (fault r) p s = let z : _≡_ {A = ℕ} 0 1 = cc in let y : ⊥ = omega arith in absurd y
+
+  pub file-at-most : (e ≡ length file) × (length file ≤ longest L)
+  file-at-most =
+      let (w, p, s) = written in
+      let h = file-size L file w e p in
+      let k : contentsSize L c ≤ longest L = contents-le L c (reads-found (reads-whole L) file 0 c e q .0) in
+      (h .0, omega (arith, h .1, size-filled L w, subst (λ c. contentsSize L c ≤ longest L) (sym s) k))
 
 -- document 01's: 41,651 bytes
 pub longest-is : longest limits ≡ longestFile
 longest-is = refl
 
 pub no-longer : (file : List ℕ) (c : Contents) (e : ℕ) → readFile file ≡ found c e → (e ≡ length file) × (length file ≤ longestFile)
-no-longer file c e q = (file-size limits file c e q .0, subst (λ n. length file ≤ n) longest-is (file-at-most limits file c e q))
+no-longer file c e q =
+    let h = file-at-most limits file c e q in
+    (h .0, subst (λ n. length file ≤ n) longest-is (h .1))

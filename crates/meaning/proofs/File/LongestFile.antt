@@ -9,13 +9,14 @@ use native.Mathlib.Omega.{arith}
 use Prim.Native.Nat.{_+_, _-_, _<_, _^_, suc, ℕ}
 use Rattle.words.specs.Sets.{digit, insert}
 use Rattle.meaning.specs.Atoms.{Atom, onSignal}
-use Rattle.meaning.specs.File.Grammar.{Component, Contents, between, component, components, drivenBy, earlier, finished, limits, mostNexts, mostStates}
-use Rattle.meaning.specs.File.Grammar.{node, nodes, number, readFile, signals, start, startState, whole, withAll}
+use Rattle.meaning.specs.File.Grammar.{Component, Contents, asWritten, between, component, components, drivenBy, earlier, finished, limits, mostNexts, mostStates}
+use Rattle.meaning.specs.File.Grammar.{filledContents, node, nodes, number, raw, readFile, signals, start, startState, whole, withAll}
 use Rattle.meaning.specs.File.Number.{groups}
 use Rattle.meaning.specs.File.Parser.{Done, demand, done, found, listOf, on, repeat}
 use Rattle.meaning.specs.File.Promise.{longestFile}
 use Rattle.meaning.specs.Nodes.{Node, atom, or}
 use Rattle.meaning.proofs.Basic.Booleans.{and-r, is-true}
+use Rattle.meaning.proofs.File.Filled.{madeOf, read-filled}
 use Rattle.meaning.proofs.File.Written.{Ends, Wrote, copies, ends-bind, listable, wrote-between, wrote-bind, wrote-byte, wrote-copies}
 use Rattle.meaning.proofs.File.Written.{wrote-less, wrote-map, wrote-more, wrote-named, wrote-none, wrote-number, wrote-signals}
 
@@ -42,7 +43,7 @@ wrote-set = wrote-number limits setBytes lastSet (λ rest at. ap (λ n. found la
 wrote-largest : (driven : ℕ) (inputs outputs word : List ℕ) (w : ℕ) → length inputs ≡ 4 → T (listable 12 0 0 inputs)
     → T (listable 12 (withAll driven inputs) 0 outputs) → T (leb 0 (length outputs) && leb (length outputs) 8)
     → T (leb 0 w && leb w (2 ^ length outputs - 1))
-    → Wrote (number limits) word w → Wrote (component limits 12 driven) (largest inputs outputs word) (largestComponent inputs outputs w)
+    → Wrote (number limits) word w → Wrote (component limits asWritten 12 driven) (largest inputs outputs word) (largestComponent inputs outputs w)
 unfolding component
 wrote-largest driven inputs outputs word w four hi ho o8 small h =
     wrote-bind _ (wrote-between limits _ _ _ refl (wrote-byte mostStates (omega arith)))
@@ -53,7 +54,7 @@ wrote-largest driven inputs outputs word w four hi ho o8 small h =
     (wrote-bind _ (wrote-copies (λ (s : Done). between limits 0 (2 ^ length outputs - 1) 6) (λ s a. s) (λ s. Unit {0}) word w
     (λ s u. (wrote-between limits _ _ _ (is-true (leb 0 w && leb w (2 ^ length outputs - 1)) small) h, tt)) mostStates done tt)
     (wrote-map (λ nexts. record { states = mostStates; inputs = inputs; outputs = outputs; outs = replicate mostStates w; nexts = nexts })
-    (wrote-copies (λ (s : Done). between limits 1 (2 ^ mostStates - 1) 6) (λ s a. s) (λ s. Unit {0}) setBytes lastSet
+    (wrote-copies (λ (s : Done). between limits 0 (2 ^ mostStates - 1) 6) (λ s a. s) (λ s. Unit {0}) setBytes lastSet
     (λ s u. (wrote-between limits _ _ _ refl wrote-set, tt)) mostNexts done tt)))))))
   where
     few : length outputs < 128
@@ -82,14 +83,14 @@ wrote-word : Wrote (number limits) (128 ∷ 1 ∷ []) 128
 unfolding groups
 wrote-word = wrote-number limits (128 ∷ 1 ∷ []) 128 (λ rest at. ap (λ n. found 128 n) (omega arith))
 
-wrote-components : Wrote (components limits 12 4) componentsBytes longComponents
+wrote-components : Wrote (components limits asWritten 12 4) componentsBytes longComponents
 unfolding digit insert withAll
 wrote-components =
-    wrote-more (component limits 12) _ 3 0 _ _ _ _ (wrote-largest 0 _ _ _ 128 refl tt tt tt tt wrote-word)
-    (wrote-more (component limits 12) _ 2 _ _ _ _ _ (wrote-largest 255 _ _ _ 0 refl tt tt tt tt (wrote-byte 0 (omega arith)))
-    (wrote-more (component limits 12) _ 1 _ _ _ _ _ (wrote-largest 1023 _ _ _ 0 refl tt tt tt tt (wrote-byte 0 (omega arith)))
-    (wrote-more (component limits 12) _ 0 _ _ _ _ _ (wrote-largest 2047 _ _ _ 0 refl tt tt tt tt (wrote-byte 0 (omega arith)))
-    (wrote-none (component limits 12) _ _))))
+    wrote-more (component limits asWritten 12) _ 3 0 _ _ _ _ (wrote-largest 0 _ _ _ 128 refl tt tt tt tt wrote-word)
+    (wrote-more (component limits asWritten 12) _ 2 _ _ _ _ _ (wrote-largest 255 _ _ _ 0 refl tt tt tt tt (wrote-byte 0 (omega arith)))
+    (wrote-more (component limits asWritten 12) _ 1 _ _ _ _ _ (wrote-largest 1023 _ _ _ 0 refl tt tt tt tt (wrote-byte 0 (omega arith)))
+    (wrote-more (component limits asWritten 12) _ 0 _ _ _ _ _ (wrote-largest 2047 _ _ _ 0 refl tt tt tt tt (wrote-byte 0 (omega arith)))
+    (wrote-none (component limits asWritten 12) _ _))))
 
 -- ---- nodes: signal 0, then `or` of node 0 with itself
 abbrev longNodes : List (Node Atom)
@@ -153,7 +154,7 @@ end-of-file =
           ∙ ap (λ n. found longestContents n) (omega arith);
     }
 
-ends-whole : Ends (whole limits) longestBytes longestContents
+ends-whole : Ends (whole limits asWritten) longestBytes longestContents
 unfolding whole
 ends-whole =
     ends-bind _ (wrote-between limits _ _ _ refl (wrote-byte 4 (omega arith)))
@@ -168,5 +169,8 @@ longest-length : length longestBytes ≡ longestFile
 longest-length = refl
 
 -- it is good, and has as many bytes as a good file can have
-pub longest-good : (readFile longestBytes ≡ found longestContents longestFile) × (length longestBytes ≡ longestFile)
-longest-good = (ends-whole .reads [] ∙ ap (λ n. found longestContents n) longest-length, longest-length)
+longest-raw : raw longestBytes ≡ found longestContents longestFile
+longest-raw = ends-whole .reads [] ∙ ap (λ n. found longestContents n) longest-length
+
+pub longest-good : (readFile longestBytes ≡ found (filledContents longestContents) longestFile) × (length longestBytes ≡ longestFile)
+longest-good = (read-filled longestBytes ∙ ap (madeOf filledContents) longest-raw, longest-length)

@@ -9,7 +9,7 @@ use native.Mathlib.Omega.{arith}
 use Prim.Native.Nat.{_*_, _+_, _<_, _≤_, ℕ}
 use Rattle.words.proofs.Members.{has-none}
 use Rattle.meaning.specs.Atoms.{Atom}
-use Rattle.meaning.specs.File.Grammar.{Component, Contents, Limits, drivenBy, finished, limits, readFile, start, startState, whole}
+use Rattle.meaning.specs.File.Grammar.{Component, Contents, Limits, drivenBy, filled, finished, limits, readFile, start, startState, whole}
 use Rattle.meaning.specs.File.Parser.{demand, done, found, repeat}
 use Rattle.meaning.specs.File.Promise.{Promised, Within, noComponent}
 use Rattle.meaning.specs.Nodes.{Node}
@@ -100,7 +100,7 @@ module _ (L : Limits) where
             λ i l. subst (λ z. getD start i 0 < z) (List·getD-map (λ c. c .states) cs i noComponent) (h .inside i (omega (arith, e))),
           )
 
-  pub reads-whole : Reads (whole L) (fileNumbers * width L + 1) (Promised L)
+  pub reads-whole : Reads (whole L filled) (fileNumbers * width L + 1) (Promised L)
   unfolding whole
   reads-whole =
       weaker (omega arith) (λ c h. h)

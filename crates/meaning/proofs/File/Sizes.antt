@@ -8,7 +8,7 @@ use native.Mathlib.Omega.{arith}
 use Prim.Native.Nat.{_%_, _*_, _+_, _/_, _<_, _^_, _≤_, suc, zero, ℕ}
 use Rattle.words.specs.Sets.{has}
 use Rattle.meaning.specs.Atoms.{Atom, onSignal}
-use Rattle.meaning.specs.File.Grammar.{Component, Contents, Limits, between, binary, component, components, drivenBy, earlier, lessThan}
+use Rattle.meaning.specs.File.Grammar.{Component, Contents, Limits, asWritten, between, binary, component, components, drivenBy, earlier, lessThan}
 use Rattle.meaning.specs.File.Grammar.{named, node, nodes, number, operands, signal, signals, start, startState, unary, whole, withAll}
 use Rattle.meaning.specs.File.Number.{choose, groups, withHigher}
 use Rattle.meaning.specs.File.Parser.{Got, Parser, demand, done, fault, found, listOf, on, repeat}
@@ -162,7 +162,7 @@ module _ (file : List ℕ) where
     words-take : (lo hi k at : ℕ) → at ≤ length file → Told (λ vs e. ListTakes (numberBytes L) k at vs e) (repeat (between L lo hi 6) k file at)
     words-take lo hi k at l = list-takes (λ s. between L lo hi 6) (λ s a. s) (numberBytes L) (λ s at l. between-takes lo hi 6 at) k done at l
 
-    component-takes : (W driven at : ℕ) → Told (λ c e. Takes at (componentSize L c) e) (component L W driven file at)
+    component-takes : (W driven at : ℕ) → Told (λ c e. Takes at (componentSize L c) e) (component L asWritten W driven file at)
     unfolding component
     component-takes W driven at =
         told-on (between-takes _ _ _ at) (λ s n hs.
@@ -221,12 +221,12 @@ module _ (file : List ℕ) where
         (list-takes (startState L sizes) (λ c v. c + 1) (numberBytes L) (λ c at l. less-takes _ _ at) (length sizes) 0 at l)
 
     -- ---- the file
-    whole-takes : Told (λ c e. (e ≡ contentsSize L c) × (e ≡ length file)) (whole L file 0)
+    whole-takes : Told (λ c e. (e ≡ contentsSize L c) × (e ≡ length file)) (whole L asWritten file 0)
     unfolding whole
     whole-takes =
         told-on (between-takes _ _ _ 0) (λ n e hn.
         told-on (between-takes _ _ _ e) (λ W e hW.
-        told-on (list-takes (component L W) (λ driven c. withAll driven (c .outputs)) (componentSize L)
+        told-on (list-takes (component L asWritten W) (λ driven c. withAll driven (c .outputs)) (componentSize L)
         (λ driven at l. component-takes W driven at) n 0 e (hW .inside)) (λ cs e qc.
         told-on (between-takes _ _ _ e) (λ k e hk.
         told-on (list-takes (node L W (drivenBy 0 cs)) (λ k a. k + 1) (nodeSize L)
@@ -245,8 +245,8 @@ module _ (file : List ℕ) where
         ))))))))))
 
 -- a good file ends with its last number: it has the bytes of its contents, and no others
-pub file-size : (L : Limits) (file : List ℕ) (c : Contents) (e : ℕ) → whole L file 0 ≡ found c e
+pub file-size : (L : Limits) (file : List ℕ) (c : Contents) (e : ℕ) → whole L asWritten file 0 ≡ found c e
     → (e ≡ length file) × (length file ≡ contentsSize L c)
 file-size L file c e q =
-    let h = found-says (λ c e. (e ≡ contentsSize L c) × (e ≡ length file)) (whole L file 0) (whole-takes file L .told) c e q in
+    let h = found-says (λ c e. (e ≡ contentsSize L c) × (e ≡ length file)) (whole L asWritten file 0) (whole-takes file L .told) c e q in
     (h .1, sym (h .1) ∙ h .0)

@@ -11,7 +11,7 @@ use Prim.Native.Nat.{ℕ, zero, suc, _≤_, _<_}
 use Rattle.meaning.specs.File.Parser.{Got, found, fault, on, listOf, repeat}
 use Rattle.meaning.specs.File.Number.{choose}
 use Rattle.meaning.specs.File.Grammar.{Component, Contents, limits, between, component, components, nodes, start, finished, withAll, drivenBy}
-use Rattle.meaning.specs.File.Grammar.{whole, readFile}
+use Rattle.meaning.specs.File.Grammar.{whole, filled, readFile}
 use Rattle.meaning.specs.File.Stretches.{Stretch, stretchOf, located}
 use Rattle.meaning.proofs.File.Lists.{Says, found-says, on-says, list-none, list-more}
 use Rattle.meaning.proofs.File.Progress.{length-list}
@@ -28,9 +28,9 @@ module _ (file : List ℕ) where
       on-says (Past file 0) (λ s n. Lies file s) (between limits 1 (limits .components) 3 file 0) _ (between-past file 1 (limits .components) 3 0)
       (λ n a p. on-says (Past file a) (λ s n. Lies file s) (between limits 0 (limits .signals) 3 file a) _
       (between-past file 0 (limits .signals) 3 a)
-      (λ W b q. on-says (λ cs m. (b ≤ m) × (m ≤ length file)) (λ s n. Lies file s) (components limits W c file b) _
-      (list-onward file (component limits W) (λ driven c. withAll driven (c .outputs)) (component-past file W) c 0 b (q .1))
-      (λ cs start h. on-says (Past file start) (λ s n. Lies file s) (component limits W (drivenBy 0 cs) file start)
+      (λ W b q. on-says (λ cs m. (b ≤ m) × (m ≤ length file)) (λ s n. Lies file s) (components limits filled W c file b) _
+      (list-onward file (component limits filled W) (λ driven c. withAll driven (c .outputs)) (component-past file W) c 0 b (q .1))
+      (λ cs start h. on-says (Past file start) (λ s n. Lies file s) (component limits filled W (drivenBy 0 cs) file start)
       (λ x end. found (record { start = start; end = end }) end) (component-past file W (drivenBy 0 cs) start)
       (λ x end l. record { some = l .0; within = l .1 }))))
 
@@ -54,7 +54,7 @@ record Begun (file : List ℕ) (k : Contents) : Type 0 where
   after-tables : ℕ
   many-is : between limits 1 (limits .components) 3 file 0 ≡ found many after-many
   signals-is : between limits 0 (limits .signals) 3 file after-many ≡ found (k .signals) after-signals
-  tables-are : components limits (k .signals) many file after-signals ≡ found (k .components) after-tables
+  tables-are : components limits filled (k .signals) many file after-signals ≡ found (k .components) after-tables
 
 says-on : {A B : Type 0} (Q : B → ℕ → Type 0) (g : Got A) (f : A → ℕ → Got B) → ((a : A) (n : ℕ) → g ≡ found a n → Says Q (f a n))
     → Says Q (on g f)
@@ -66,7 +66,7 @@ unfolding whole
 read-begun file =
     says-on (λ k e. Begun file k) (between limits 1 (limits .components) 3 file 0) _
     (λ n a p. says-on (λ k e. Begun file k) (between limits 0 (limits .signals) 3 file a) _
-    (λ W b q. says-on (λ k e. Begun file k) (components limits W n file b) _
+    (λ W b q. says-on (λ k e. Begun file k) (components limits filled W n file b) _
     (λ cs d r. says-on (λ k e. Begun file k) (between limits 1 (limits .nodes) 3 file d) _
     (λ c e x. says-on (λ k e. Begun file k) (nodes limits W (drivenBy 0 cs) c file e) _
     (λ ns e x. says-on (λ k e. Begun file k) (between limits 0 (limits .starts) 3 file e) _
@@ -86,20 +86,20 @@ read-begun file =
 record Reached (file : List ℕ) (W set at c : ℕ) (cs : List Component) (d : Component) : Type 0 where
   start : ℕ
   end : ℕ
-  before : listOf (component limits W) (λ driven c. withAll driven (c .outputs)) c set file at ≡ found (take c cs) start
-  itself : component limits W (drivenBy set (take c cs)) file start ≡ found (getD cs c d) end
+  before : listOf (component limits filled W) (λ driven c. withAll driven (c .outputs)) c set file at ≡ found (take c cs) start
+  itself : component limits filled W (drivenBy set (take c cs)) file start ≡ found (getD cs c d) end
 
 module _ (file : List ℕ) (W : ℕ) (d : Component) where
   abbrev several : ℕ → ℕ → ℕ → Got (List Component)
-  several n set at = listOf (component limits W) (λ driven c. withAll driven (c .outputs)) n set file at
+  several n set at = listOf (component limits filled W) (λ driven c. withAll driven (c .outputs)) n set file at
 
-  reached-next : (c set at m : ℕ) (a : Component) (rest : List Component) → component limits W set file at ≡ found a m
+  reached-next : (c set at m : ℕ) (a : Component) (rest : List Component) → component limits filled W set file at ≡ found a m
       → ((b : ℕ) → c ≡ suc b → Reached file W (withAll set (a .outputs)) m b rest d) → Reached file W set at c (a ∷ rest) d
   reached-next zero set at m a rest p h =
       record {
         start = at;
         end = m;
-        before = list-none (component limits W) (λ driven c. withAll driven (c .outputs)) file set at;
+        before = list-none (component limits filled W) (λ driven c. withAll driven (c .outputs)) file set at;
         itself = p;
       }
   reached-next (suc c) set at m a rest p h =
@@ -108,7 +108,7 @@ module _ (file : List ℕ) (W : ℕ) (d : Component) where
         start = r .start;
         end = r .end;
         before =
-            list-more (component limits W) (λ driven c. withAll driven (c .outputs)) file c set at
+            list-more (component limits filled W) (λ driven c. withAll driven (c .outputs)) file c set at
             ∙ ap (λ g. on g (λ a m. on (several c (withAll set (a .outputs)) m) (λ rest e. found (a ∷ rest) e))) p
             ∙ ap (λ g. on g (λ rest e. found (a ∷ rest) e)) (r .before);
         itself = r .itself;
@@ -117,13 +117,13 @@ module _ (file : List ℕ) (W : ℕ) (d : Component) where
   component-reached : (n c set at : ℕ) (cs : List Component) (e : ℕ) → c < n → several n set at ≡ found cs e → Reached file W set at c cs d
   component-reached zero c set at cs e l q = absurd (omega arith)
   component-reached (suc n) c set at cs e l q =
-      first (component limits W set file at) refl (component-reached n)
-      (sym (list-more (component limits W) (λ driven c. withAll driven (c .outputs)) file n set at) ∙ q)
+      first (component limits filled W set file at) refl (component-reached n)
+      (sym (list-more (component limits filled W) (λ driven c. withAll driven (c .outputs)) file n set at) ∙ q)
     where
       Others : Type 0
       Others = (c set at : ℕ) (cs : List Component) (e : ℕ) → c < n → several n set at ≡ found cs e → Reached file W set at c cs d
 
-      second : (a : Component) (m : ℕ) → component limits W set file at ≡ found a m → (h : Got (List Component))
+      second : (a : Component) (m : ℕ) → component limits filled W set file at ≡ found a m → (h : Got (List Component))
           → several n (withAll set (a .outputs)) m ≡ h → Others → on h (λ rest e. found (a ∷ rest) e) ≡ found cs e → Reached file W set at c cs d
       second a m p (found rest f) r others q =
           let z : a ∷ rest ≡ cs = cc in
@@ -131,7 +131,7 @@ module _ (file : List ℕ) (W : ℕ) (d : Component) where
           (reached-next c set at m a rest p (λ b x. others b (withAll set (a .outputs)) m rest f (omega arith) r))
       second a m p (fault s) r others q = let z : _≡_ {A = ℕ} 0 1 = cc in let y : ⊥ = omega arith in absurd y
 
-      first : (g : Got Component) → component limits W set file at ≡ g → Others
+      first : (g : Got Component) → component limits filled W set file at ≡ g → Others
           → on g (λ a m. on (several n (withAll set (a .outputs)) m) (λ rest e. found (a ∷ rest) e)) ≡ found cs e → Reached file W set at c cs d
       first (found a m) p others q = second a m p (several n (withAll set (a .outputs)) m) refl others q
       first (fault s) p others q = let z : _≡_ {A = ℕ} 0 1 = cc in let y : ⊥ = omega arith in absurd y
@@ -140,7 +140,7 @@ module _ (file : List ℕ) (W : ℕ) (d : Component) where
 pub record Stands (file : List ℕ) (k : Contents) (c : ℕ) (d : Component) : Type 0 where
   pub stretch : Stretch
   pub is-located : located file c ≡ found stretch (stretch .end)
-  pub is-read : component limits (k .signals) (drivenBy 0 (take c (k .components))) file (stretch .start)
+  pub is-read : component limits filled (k .signals) (drivenBy 0 (take c (k .components))) file (stretch .start)
       ≡ found (getD (k .components) c d) (stretch .end)
 
 pub component-stands : (file : List ℕ) (k : Contents) (at : ℕ) → readFile file ≡ found k at → (c : ℕ) → c < length (k .components)
@@ -148,7 +148,7 @@ pub component-stands : (file : List ℕ) (k : Contents) (at : ℕ) → readFile 
 component-stands file k at e c l d =
     let b = found-says (λ k e. Begun file k) (readFile file) (read-begun file) k at e in
     let n =
-    length-list (component limits (k .signals)) (λ driven c. withAll driven (c .outputs)) file (b .many) 0 (b .after-signals)
+    length-list (component limits filled (k .signals)) (λ driven c. withAll driven (c .outputs)) file (b .many) 0 (b .after-signals)
     (k .components) (b .after-tables) (b .tables-are) in
     let r = component-reached file (k .signals) d (b .many) c 0 (b .after-signals) (k .components) (b .after-tables) (omega arith) (b .tables-are) in
     record {

@@ -4,7 +4,7 @@ use mathlib.Core.Bool.{not, _&&_}
 use mathlib.Core.List.{List, [], _∷_, map}
 use lib.Dec.{ltb, leb}
 use lib.ListN.{length, getD}
-use Prim.Native.Nat.{ℕ, zero, suc, _+_, _-_, _*_, _^_}
+use Prim.Native.Nat.{ℕ, zero, suc, _+_, _-_, _*_, _/_, _^_}
 use Rattle.words.specs.Sets.{has, insert}
 use Rattle.meaning.specs.Atoms.{Atom, Set, onSignal}
 use Rattle.meaning.specs.Table.{Table, fromWords}
@@ -76,6 +76,34 @@ tableOf c = fromWords (c .states) (c .inputs) (c .outputs) (c .outs) (c .nexts)
 abbrev pub instrumentOf : Contents → Instrument
 instrumentOf c = record { signals = c .signals; tables = map tableOf (c .components); nodes = c .nodes; starts = c .starts; sets = c .sets }
 
+-- "An empty successor set means the state itself" (document 02, 2/14): the set of state x
+abbrev pub filledSet : ℕ → ℕ → ℕ
+filledSet x zero = 2 ^ x
+filledSet x (suc v) = suc v
+
+-- the sets from place p on, of which each state has one for each assignment of i inputs: the set at place p is one of state p / 2^i
+abbrev pub filledFrom : ℕ → ℕ → List ℕ → List ℕ
+filledFrom i p [] = []
+filledFrom i p (v ∷ vs) = filledSet (p / 2 ^ i) v ∷ filledFrom i (suc p) vs
+
+-- a component as it is written, and with its sets filled
+abbrev pub asWritten : Component → Component
+asWritten c = c
+
+abbrev pub filled : Component → Component
+filled c =
+    record {
+      states = c .states;
+      inputs = c .inputs;
+      outputs = c .outputs;
+      outs = c .outs;
+      nexts = filledFrom (length (c .inputs)) 0 (c .nexts);
+    }
+
+abbrev pub filledContents : Contents → Contents
+filledContents c =
+    record { signals = c .signals; components = map filled (c .components); nodes = c .nodes; starts = c .starts; sets = c .sets }
+
 -- a set of signals with those of a list besides, bit w for signal w
 unfoldable pub withAll : ℕ → List ℕ → ℕ
 withAll set [] = set
@@ -116,20 +144,21 @@ module _ (L : Limits) where
   abbrev pub signals : ℕ → ℕ → ℕ → Parser (List ℕ)
   signals W taken count = listOf (signal W taken) (λ low v. v + 1) count 0
 
-  -- a component, after others that drive the signals `driven`: its outputs are none of those and none of its own inputs
-  unfoldable pub component : ℕ → ℕ → Parser Component
-  component W driven = do
+  -- a component, after others that drive the signals `driven`: its outputs are none of those and none of its own inputs; `make` is what is
+  -- made of it as it is written
+  unfoldable pub component : (Component → Component) → ℕ → ℕ → Parser Component
+  component make W driven = do
     s ← between 1 (L .states) 3
     i ← between 0 (L .inputs) 3
     inputs ← signals W 0 i
     o ← between 0 (L .outputs) 3
     outputs ← signals W (withAll driven inputs) o
     outs ← repeat (between 0 (2 ^ o - 1) 6) s
-    nexts ← repeat (between 1 (2 ^ s - 1) 6) (s * 2 ^ i)
-    give (record { states = s; inputs = inputs; outputs = outputs; outs = outs; nexts = nexts })
+    nexts ← repeat (between 0 (2 ^ s - 1) 6) (s * 2 ^ i)
+    give (make (record { states = s; inputs = inputs; outputs = outputs; outs = outs; nexts = nexts }))
 
-  abbrev pub components : ℕ → ℕ → Parser (List Component)
-  components W n = listOf (component W) (λ driven c. withAll driven (c .outputs)) n 0
+  abbrev pub components : (Component → Component) → ℕ → ℕ → Parser (List Component)
+  components make W n = listOf (component make W) (λ driven c. withAll driven (c .outputs)) n 0
 
   -- an operand of node k: an earlier node
   abbrev pub earlier : ℕ → Parser ℕ
@@ -183,11 +212,11 @@ module _ (L : Limits) where
   abbrev pub finished : Parser Done
   finished = λ file at. demand (leb (length file) at) 10 file at
 
-  unfoldable pub whole : Parser Contents
-  whole = do
+  unfoldable pub whole : (Component → Component) → Parser Contents
+  whole make = do
     n ← between 1 (L .components) 3
     W ← between 0 (L .signals) 3
-    cs ← components W n
+    cs ← components make W n
     k ← between 1 (L .nodes) 3
     ns ← nodes W (drivenBy 0 cs) k
     m ← between 0 (L .starts) 3
@@ -195,6 +224,10 @@ module _ (L : Limits) where
     finished
     give (record { signals = W; components = cs; nodes = ns; starts = ss; sets = [] })
 
--- what document 01 makes of a file: a refusal's number, or the contents
+-- what the documents make of a file: a refusal's number, or the contents, where every rule that reads a table sees filled sets
 abbrev pub readFile : List ℕ → Got Contents
-readFile file = whole limits file 0
+readFile file = whole limits filled file 0
+
+-- the same with each set as the file writes it
+abbrev pub raw : List ℕ → Got Contents
+raw file = whole limits asWritten file 0

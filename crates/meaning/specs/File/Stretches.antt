@@ -6,7 +6,7 @@ use mathlib.Core.List.{List}
 use Prim.Native.Nat.{ℕ}
 use Rattle.meaning.specs.File.Parser.{Got, found, fault, Parser, on, _>>=_, _>>_, give}
 use Rattle.meaning.specs.File.Number.{choose}
-use Rattle.meaning.specs.File.Grammar.{limits, between, components, component, drivenBy, readFile}
+use Rattle.meaning.specs.File.Grammar.{limits, between, components, component, drivenBy, filled, readFile}
 
 -- from a place up to, not including, another
 pub record Stretch : Type 0 where
@@ -22,9 +22,9 @@ abbrev pub stretchOf : ℕ → Parser Stretch
 stretchOf c = do
   n ← between limits 1 (limits .components) 3
   W ← between limits 0 (limits .signals) 3
-  before ← components limits W c
+  before ← components limits filled W c
   start ← place
-  component limits W (drivenBy 0 before)
+  component limits filled W (drivenBy 0 before)
   end ← place
   give (record { start = start; end = end })
 

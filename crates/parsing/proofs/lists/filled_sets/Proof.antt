@@ -1,4 +1,4 @@
--- The loop has read i sets, and they are stored.
+-- The loop has read p sets, and they are stored filled.
 use mathlib.Core.Path.{_≡_, refl, sym, ap, _∙_}
 use mathlib.Core.List.{List}
 use lib.ListN.{length, length-set}
@@ -7,22 +7,22 @@ use native.Mathlib.Omega.{arith}
 use borrow.Author.Needs.{needs}
 use Prim.Native.Nat.{ℕ, _-_, _≤_}
 use Rattle.meaning.specs.File.Parser.{done}
-use Rattle.meaning.specs.File.Grammar.{between, limits}
+use Rattle.meaning.specs.File.Grammar.{between, filledFrom, limits}
 use Rattle.cursor.specs.Answers.{gotWide}
 use Rattle.parsing.specs.Stages.{mapped}
-use Rattle.parsing.proofs.Stores.{store-more}
+use Rattle.parsing.proofs.Stays.{state-below, store-filled}
 use Rattle.parsing.proofs.Faults.{Reading, begins, stops, stops-held, goes-on, ends, ends-held}
-use Rattle.parsing.proofs.lists.sets_between.Statement.{statement}
-use Rattle.parsing.proofs.lists.sets_between.Tie as tie
+use Rattle.parsing.proofs.lists.filled_sets.Statement.{statement}
+use Rattle.parsing.proofs.lists.filled_sets.Tie as tie
 
 abbrev Inv-loop : tie.InvT-loop
-Inv-loop file count lo hi out₀ base place₀ i₀ out place i =
-    (i ≤ count) × (length out ≡ length out₀)
-    × Reading (λ s. between limits lo hi 6) (λ s a. s) file count done (place₀ .at) (λ (l : List ℕ). out ≡ sets out₀ base l) i done
-    (place .at)
+Inv-loop file count hi inputs out₀ base place₀ p₀ out place p =
+    (p ≤ count) × (length out ≡ length out₀)
+    × Reading (λ s. between limits 0 hi 6) (λ s a. s) file count done (place₀ .at) (λ (l : List ℕ). out ≡ sets out₀ base (filledFrom inputs 0 l)) p
+    done (place .at)
 
 abbrev μ-loop : tie.MeasureT-loop
-μ-loop file count lo hi out₀ base place₀ i₀ out place i = count - i
+μ-loop file count hi inputs out₀ base place₀ p₀ out place p = count - p
 
 loop-holds : tie.Need-loop-holds Inv-loop μ-loop
 loop-holds c = (omega arith, refl, begins _ _ _ _ _ _ _ refl)
@@ -41,15 +41,24 @@ returns c =
     let e = stops _ _ _ _ _ _ _ _ _ _ (loop′ .inv .2) (loop-test′ .taken) _ f in
     (sym (ap (mapped (λ vs. done)) e), stops-held _ _ _ _ _ _ _ _ _ _ (loop′ .inv .2) (loop-test′ .taken) _ f)
 
+shr-filled : tie.Need-shr-filled Inv-loop μ-loop
+shr-filled c = omega (arith, c .before .before .before .before .before .before .before .before .pre .0)
+
+filled-requires : tie.Need-filled-requires Inv-loop μ-loop
+filled-requires c κs =
+    state-below _ _ _ _ (c .before .before .before .before .loop-test .taken)
+    (c .before .before .before .before .before .before .before .before .pre .1)
+
 loop-again : tie.Need-loop-again Inv-loop μ-loop
 loop-again c =
-    let loop′ = c .before .before .before .before .before .loop in
-    let loop-test′ = c .before .before .before .before .loop-test in
-    let wide-between′ = c .before .before .before .wide-between in (
+    let loop′ = c .before .before .before .before .before .before .loop in
+    let loop-test′ = c .before .before .before .before .before .loop-test in
+    let wide-between′ = c .before .before .before .before .wide-between in
+    let set′ = c .before .before .set in (
       omega arith,
       length-set (loop′ .out) _ _ ∙ loop′ .inv .1,
-      goes-on _ _ _ _ _ _ _ _ _ _ (loop′ .inv .2) _ (loop-test′ .taken) _ _ (sym (wide-between′ .ensures) ∙ ap gotWide (c .before .set .given .1))
-          (λ s n h. store-more _ _ _ _ s _ n h),
+      goes-on _ _ _ _ _ _ _ _ _ _ (loop′ .inv .2) _ (loop-test′ .taken) _ _ (sym (wide-between′ .ensures) ∙ ap gotWide (set′ .given .1))
+          (λ s n h. store-filled _ _ _ _ _ s _ _ (c .filled .ensures) n h),
     )
 
 same-length-2 : tie.Need-same-length-2 Inv-loop μ-loop
@@ -61,8 +70,8 @@ returns-2 c =
     let e = ends _ _ _ _ _ _ _ _ _ _ p (omega arith) in
     (sym (ap (mapped (λ vs. done)) e), ends-held _ _ _ _ _ _ _ _ _ _ p (omega arith))
 
-pub sets-between-spec : {M : Type 1} → statement M
-sets-between-spec =
+pub filled-sets-spec : {M : Type 1} → statement M
+filled-sets-spec =
     tie.close
     (tie.spec
     Inv-loop
@@ -73,6 +82,8 @@ sets-between-spec =
     same-length
     returns
     (λ c. search needs)
+    shr-filled
+    filled-requires
     (λ c. omega arith)
     (λ c. omega arith)
     (λ c. omega arith)
