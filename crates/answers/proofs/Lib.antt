@@ -9,3 +9,5 @@ pub mod Numbers
 pub mod PrintedNumbers
 pub mod Asked
 pub mod Wide
+pub mod Same
+pub mod Stays

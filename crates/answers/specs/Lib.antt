@@ -6,3 +6,4 @@ pub mod Lines
 pub mod Questions
 pub mod Printed
 pub mod Means
+pub mod Same

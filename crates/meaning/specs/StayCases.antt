@@ -39,7 +39,7 @@ lastStays before =
     (1 ∷ 1 ∷ suc before ∷ 0 ∷ 1 ∷ 0 ∷ []) ++ (replicate before 0 ++ ((1 ∷ []) ++ (replicate before 1 ++ ((0 ∷ []) ++ (2 ∷ 1 ∷ 0 ∷ 4 ∷ 0 ∷ 0 ∷ [])))))
 
 -- two states without signals, from the beginning of the file to their output words
-abbrev two : List ℕ
+abbrev pub two : List ℕ
 two = 1 ∷ 0 ∷ 2 ∷ 0 ∷ 0 ∷ 0 ∷ 0 ∷ []
 
 abbrev pub stayCases : List Case
