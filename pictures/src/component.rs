@@ -1,6 +1,9 @@
 //! A component with its classes and marks, as it is drawn.
 
+use std::borrow::Cow;
+
 use second::instrument::{Instrument, Node, Table};
+use second::reading::Reading;
 
 use crate::answers::Answers;
 use crate::palette::Fill;
@@ -102,22 +105,25 @@ impl Component {
         outputs.filter(|(_, &high)| high).map(|(signal, _)| format!("s{signal}")).collect()
     }
 
+    /// The successors of the state on the assignment; an empty set of the file is
+    /// the state itself.
+    fn successors(&self, state: usize, assignment: usize) -> Cow<'_, [usize]> {
+        self.table.successors(state, assignment, Reading::Document)
+    }
+
     /// On which assignments the state steps to the other.
     pub fn taken(&self, from: usize, to: usize) -> Vec<bool> {
-        self.table.successors[from].iter().map(|set| set.contains(&to)).collect()
+        let assignments = 0..self.table.assignments();
+        assignments.map(|assignment| self.successors(from, assignment).contains(&to)).collect()
     }
 }
 
 impl Component {
     /// On which assignments some member of a class steps into the other.
     pub fn merged_taken(&self, from: &Class, to: &Class) -> Vec<bool> {
-        let mut taken = vec![false; self.table.assignments()];
-        for &state in &from.members {
-            for (level, set) in taken.iter_mut().zip(&self.table.successors[state]) {
-                *level |= set.iter().any(|successor| to.members.contains(successor));
-            }
-        }
-        taken
+        let into = |set: Cow<[usize]>| set.iter().any(|successor| to.members.contains(successor));
+        let assignments = 0..self.table.assignments();
+        assignments.map(|a| from.members.iter().any(|&s| into(self.successors(s, a)))).collect()
     }
 }
 

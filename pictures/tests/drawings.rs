@@ -11,9 +11,10 @@ use pictures::component::Component;
 use pictures::graph::Graph;
 use second::fields::write;
 use second::generator;
-use second::instrument::{Instrument, Node, Table};
+use second::instrument::{Instrument, Node, Table, WrittenSets};
 use second::notation::from_text;
 use second::prng::Prng;
+use second::stays::{every_stay, Stay};
 
 /// The files of all texts in second/examples.
 fn examples() -> Vec<Vec<u8>> {
@@ -51,7 +52,7 @@ fn full_size(
         inputs: (8..8 + inputs).collect(),
         levels: (0..states).map(|s| outputs.iter().map(|&j| level(s, j)).collect()).collect(),
         outputs,
-        successors: sets,
+        sets: WrittenSets::new(sets),
     };
     let nodes = vec![Node::Signal(0), Node::Ex(0), Node::Eg(1)];
     Instrument { signals: 12, tables: vec![table], nodes, starts: vec![vec![3]] }
@@ -90,6 +91,21 @@ fn random_instruments() {
         check_drawings(&file);
         check_apart(&file);
     }
+}
+
+/// An empty set is drawn as the step to the state itself.
+#[test]
+fn both_ways_to_write_a_stay_are_drawn_alike() {
+    let mut different = 0;
+    for seed in 0..150 {
+        let instrument = generator::instrument(&mut Prng::new(seed));
+        let files =
+            [Stay::SpelledOut, Stay::Empty].map(|stay| write(&every_stay(&instrument, stay)));
+        different += usize::from(files[0] != files[1]);
+        let drawn = |file: &[u8]| pictures::command::drawings(file, &answers(file));
+        assert!(drawn(&files[0]).expect("drawings") == drawn(&files[1]).expect("drawings"));
+    }
+    assert!(different > 50, "{different}");
 }
 
 #[test]

@@ -42,7 +42,7 @@ impl Bench {
             let relations = relations(&Component { table, nodes, marks: &marks, reading });
             let names = class_names(&relations[instrument.root()]);
             let classes = classes(&names);
-            bench.merged_tables.push(merged_table(table, &classes));
+            bench.merged_tables.push(merged_table(table, &classes, reading));
             bench.marks.push(marks);
             bench.relations.push(relations);
             bench.names.push(names);

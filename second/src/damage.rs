@@ -187,7 +187,8 @@ fn faulty_values(instrument: &Instrument, field: &Field) -> Vec<(u64, Refusal)> 
         Place::OutputWord(c) => bit_faults(own, tables[c].outputs.len()),
         Place::SuccessorSet(c) => {
             let mut faults = bit_faults(own, tables[c].states());
-            faults.push((0, Refusal::WordOrSet));
+            // The good set and, beside its members, the lowest bit too high.
+            faults.extend(faults.first().map(|&(least, refusal)| (own + least, refusal)));
             faults
         }
         Place::Kind => at_or_above(own, 7, Refusal::KindOrOperand),

@@ -1,8 +1,9 @@
 //! The bench cases of document 01, and instruments at its limits.
 
+pub mod stays;
 pub mod wide;
 
-use crate::instrument::{Instrument, Node, Table};
+use crate::instrument::{Instrument, Node, Table, WrittenSets};
 use crate::limits;
 
 /// The chain as document 01 prints it.
@@ -18,7 +19,7 @@ pub fn chain_with(nodes: &[Node]) -> Instrument {
         inputs: vec![],
         outputs: vec![0],
         levels: vec![vec![true], vec![true], vec![false]],
-        successors: vec![vec![vec![1]], vec![vec![2]], vec![vec![2]]],
+        sets: WrittenSets::new(vec![vec![vec![1]], vec![vec![2]], vec![vec![2]]]),
     };
     Instrument { signals: 1, tables: vec![table], nodes: nodes.to_vec(), starts: vec![vec![0]] }
 }
@@ -38,14 +39,14 @@ pub fn counter(states: usize, signal: usize) -> Table {
         inputs: vec![],
         outputs: vec![signal],
         levels: (0..states).map(|s| vec![s == 0]).collect(),
-        successors: (0..states).map(|s| vec![vec![(s + 1) % states]]).collect(),
+        sets: WrittenSets::new((0..states).map(|s| vec![vec![(s + 1) % states]]).collect()),
     }
 }
 
 /// One component with the given number of states, each of which goes to state 0.
 pub fn all_to_zero(states: usize) -> Instrument {
     let mut table = counter(states, 0);
-    table.successors = vec![vec![vec![0]]; states];
+    table.sets = WrittenSets::new(vec![vec![vec![0]]; states]);
     let nodes = vec![Node::Signal(0), Node::Ex(0)];
     Instrument { signals: 1, tables: vec![table], nodes, starts: vec![vec![states - 1]] }
 }
@@ -94,13 +95,14 @@ pub fn full_too_large_merged_small() -> Instrument {
 /// A component of 64 states and four inputs in which every successor set takes
 /// ten bytes: it has state 63.
 fn longest_table(inputs: Vec<usize>, outputs: Vec<usize>) -> Table {
-    let mut table = Table { inputs, outputs, levels: vec![], successors: vec![] };
+    let mut table = Table { inputs, outputs, levels: vec![], sets: WrittenSets::new(vec![]) };
     for s in 0..limits::STATES {
         let last = table.outputs.len() - 1;
         // The last output is always high: eight outputs then take two bytes.
         table.levels.push((0..=last).map(|j| j == last || (s + j) % 3 == 0).collect());
         let set = |assignment: usize| vec![(s + s * assignment) % 63, 63];
-        table.successors.push((0..table.assignments()).map(set).collect());
+        let sets = (0..table.assignments()).map(set).collect();
+        table.sets.as_written_mut().push(sets);
     }
     table
 }

@@ -86,7 +86,7 @@ fn add_table(fields: &mut Vec<Field>, c: usize, table: &Table) {
     for levels in &table.levels {
         fields.push(Field { place: Place::OutputWord(c), value: word_of(levels) });
     }
-    for sets in &table.successors {
+    for sets in table.sets.as_written() {
         for set in sets {
             let members: Vec<bool> = (0..table.states()).map(|t| set.contains(&t)).collect();
             fields.push(Field { place: Place::SuccessorSet(c), value: word_of(&members) });

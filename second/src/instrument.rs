@@ -1,5 +1,29 @@
 //! Tables, formula nodes and starts. Document 01, "The instrument file".
 
+use std::borrow::Cow;
+
+use crate::reading::Reading;
+
+/// The successor sets of a table as its file writes them: for each state and each
+/// assignment, the members in ascending order. A set may be empty, so no rule
+/// looks in here; rules ask `Table::successors`.
+#[derive(Clone, Debug, PartialEq, Eq)]
+pub struct WrittenSets(Vec<Vec<Vec<usize>>>);
+
+impl WrittenSets {
+    pub fn new(sets: Vec<Vec<Vec<usize>>>) -> WrittenSets {
+        WrittenSets(sets)
+    }
+
+    pub fn as_written(&self) -> &[Vec<Vec<usize>>] {
+        &self.0
+    }
+
+    pub fn as_written_mut(&mut self) -> &mut Vec<Vec<Vec<usize>>> {
+        &mut self.0
+    }
+}
+
 /// A component's state table.
 #[derive(Clone, Debug, PartialEq, Eq)]
 pub struct Table {
@@ -9,8 +33,8 @@ pub struct Table {
     pub outputs: Vec<usize>,
     /// For each state, the level of each listed output.
     pub levels: Vec<Vec<bool>>,
-    /// For each state and each assignment, the successors in ascending order.
-    pub successors: Vec<Vec<Vec<usize>>>,
+    /// The successor sets of the file.
+    pub sets: WrittenSets,
 }
 
 impl Table {
@@ -61,11 +85,33 @@ impl Table {
         assignment
     }
 
+    /// The successors of the state on the assignment, as every rule sees them: an
+    /// empty set means the state itself. Document 02, 2/14.
+    pub fn successors(
+        &self,
+        state: usize,
+        assignment: usize,
+        reading: Reading,
+    ) -> Cow<'_, [usize]> {
+        let written = &self.sets.0[state][assignment];
+        if !written.is_empty() {
+            return Cow::Borrowed(written);
+        }
+        let place = state * self.assignments() + assignment;
+        let filled = match reading {
+            Reading::EmptySetIsStateZero => 0,
+            Reading::EmptySetIsPlace => place % self.states(),
+            _ => state,
+        };
+        Cow::Owned(vec![filled])
+    }
+
     /// For each state, its successors on any assignment: the component's own steps.
-    pub fn own_steps(&self) -> Vec<Vec<usize>> {
+    pub fn own_steps(&self, reading: Reading) -> Vec<Vec<usize>> {
         let mut steps = Vec::new();
         for state in 0..self.states() {
-            let reached = |t: &usize| self.successors[state].iter().any(|set| set.contains(t));
+            let on = |assignment| self.successors(state, assignment, reading);
+            let reached = |t: &usize| (0..self.assignments()).any(|a| on(a).contains(t));
             steps.push((0..self.states()).filter(reached).collect());
         }
         steps

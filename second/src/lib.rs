@@ -34,6 +34,7 @@ pub mod reduce;
 pub mod refusal;
 pub mod relation;
 pub mod self_check;
+pub mod stays;
 pub mod store;
 pub mod truth;
 pub mod verdict;

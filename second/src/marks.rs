@@ -43,7 +43,7 @@ fn mark_node(table: &Table, node: &Node, marks: &[Marks], reading: Reading) -> M
         Node::Or(a, b) => or_marks(&marks[a], &marks[b], reading),
         Node::Ex(a) => Marks {
             pass: states.clone().map(|s| ex_pass(table, s, &marks[a].pass, reading)).collect(),
-            fail: states.map(|s| only_successors_in(table, s, &marks[a].fail)).collect(),
+            fail: states.map(|s| only_successors_in(table, s, &marks[a].fail, reading)).collect(),
         },
         Node::Eg(a) => Marks {
             pass: eg_pass(table, &marks[a].pass, reading),
@@ -69,24 +69,24 @@ fn or_marks(a: &Marks, b: &Marks, reading: Reading) -> Marks {
 }
 
 /// Whether on every assignment the state has a successor in the set.
-fn successor_on_every_assignment(table: &Table, state: usize, set: &[bool]) -> bool {
-    table.successors[state].iter().all(|successors| successors.iter().any(|&t| set[t]))
+fn successor_on_every_assignment(table: &Table, s: usize, set: &[bool], reading: Reading) -> bool {
+    (0..table.assignments()).all(|a| table.successors(s, a, reading).iter().any(|&t| set[t]))
 }
 
-fn successor_on_some_assignment(table: &Table, state: usize, set: &[bool]) -> bool {
-    table.successors[state].iter().any(|successors| successors.iter().any(|&t| set[t]))
+fn successor_on_some_assignment(table: &Table, s: usize, set: &[bool], reading: Reading) -> bool {
+    (0..table.assignments()).any(|a| table.successors(s, a, reading).iter().any(|&t| set[t]))
 }
 
 /// Whether on all assignments all successors are in the set.
-fn only_successors_in(table: &Table, state: usize, set: &[bool]) -> bool {
-    table.successors[state].iter().all(|successors| successors.iter().all(|&t| set[t]))
+fn only_successors_in(table: &Table, s: usize, set: &[bool], reading: Reading) -> bool {
+    (0..table.assignments()).all(|a| table.successors(s, a, reading).iter().all(|&t| set[t]))
 }
 
 fn ex_pass(table: &Table, state: usize, operand_pass: &[bool], reading: Reading) -> bool {
     if reading == Reading::ExPassFromOneAssignment {
-        return successor_on_some_assignment(table, state, operand_pass);
+        return successor_on_some_assignment(table, state, operand_pass, reading);
     }
-    successor_on_every_assignment(table, state, operand_pass)
+    successor_on_every_assignment(table, state, operand_pass, reading)
 }
 
 /// The largest set inside PASS of the operand that on every assignment has a
@@ -97,9 +97,9 @@ fn eg_pass(table: &Table, operand_pass: &[bool], reading: Reading) -> Vec<bool> 
         let mut changed = false;
         for s in 0..table.states() {
             let stays = if reading == Reading::EgPassFromOneAssignment {
-                successor_on_some_assignment(table, s, &set)
+                successor_on_some_assignment(table, s, &set, reading)
             } else {
-                successor_on_every_assignment(table, s, &set)
+                successor_on_every_assignment(table, s, &set, reading)
             };
             if set[s] && !stays {
                 set[s] = false;
@@ -115,7 +115,7 @@ fn eg_pass(table: &Table, operand_pass: &[bool], reading: Reading) -> Vec<bool> 
 /// Every path meets FAIL of the operand: no path stays outside it for ever.
 fn eg_fail(table: &Table, operand_fail: &[bool], reading: Reading) -> Vec<bool> {
     let outside: Vec<bool> = operand_fail.iter().map(|fail| !fail).collect();
-    let avoids = some_path_stays(&table.own_steps(), &outside, reading);
+    let avoids = some_path_stays(&table.own_steps(reading), &outside, reading);
     avoids.iter().map(|avoids| !avoids).collect()
 }
 
@@ -125,13 +125,13 @@ fn eg_fail(table: &Table, operand_fail: &[bool], reading: Reading) -> Vec<bool> 
 fn eu_pass(table: &Table, first: &[bool], second: &[bool], reading: Reading) -> Vec<bool> {
     let mut set = second.to_vec();
     if reading == Reading::EuWithoutStepZero {
-        let reaches = |s| first[s] && successor_on_every_assignment(table, s, second);
+        let reaches = |s| first[s] && successor_on_every_assignment(table, s, second, reading);
         set = (0..table.states()).map(reaches).collect();
     }
     loop {
         let mut changed = false;
         for s in 0..table.states() {
-            if !set[s] && first[s] && successor_on_every_assignment(table, s, &set) {
+            if !set[s] && first[s] && successor_on_every_assignment(table, s, &set, reading) {
                 set[s] = true;
                 changed = true;
             }
@@ -152,6 +152,6 @@ fn eu_fail(table: &Table, first: &[bool], second: &[bool], reading: Reading) -> 
     } else {
         second.iter().map(|fail| !fail).collect()
     };
-    let escapes = some_path_reaches(&table.own_steps(), &before, &goal, reading);
+    let escapes = some_path_reaches(&table.own_steps(reading), &before, &goal, reading);
     escapes.iter().map(|escapes| !escapes).collect()
 }

@@ -5,7 +5,7 @@
 
 use std::ops::{Range, RangeInclusive};
 
-use crate::instrument::{Instrument, Node, Table};
+use crate::instrument::{Instrument, Node, Table, WrittenSets};
 use crate::limits;
 use crate::number::read_number;
 use crate::refusal::Refusal;
@@ -85,7 +85,7 @@ impl Reader<'_> {
             }
             outputs.push(signal);
         }
-        let mut table = Table { inputs, outputs, levels: vec![], successors: vec![] };
+        let mut table = Table { inputs, outputs, levels: vec![], sets: WrittenSets::new(vec![]) };
         for _ in 0..states {
             table.levels.push(self.output_word(table.outputs.len())?);
         }
@@ -94,7 +94,7 @@ impl Reader<'_> {
             for _ in 0..table.assignments() {
                 sets.push(self.successor_set(states)?);
             }
-            table.successors.push(sets);
+            table.sets.as_written_mut().push(sets);
         }
         Ok(table)
     }
@@ -116,15 +116,12 @@ impl Reader<'_> {
         members_of(word, outputs).ok_or(Refusal::WordOrSet)
     }
 
-    /// A successor set: not empty and no bit at or above the number of states, else 6.
+    /// A successor set, which may be empty: no bit at or above the number of
+    /// states, else 6.
     fn successor_set(&mut self, states: usize) -> Result<Vec<usize>, Refusal> {
         let word = self.number()?;
         let members = members_of(word, states).ok_or(Refusal::WordOrSet)?;
-        let successors: Vec<usize> = (0..states).filter(|&t| members[t]).collect();
-        if successors.is_empty() {
-            return Err(Refusal::WordOrSet);
-        }
-        Ok(successors)
+        Ok((0..states).filter(|&t| members[t]).collect())
     }
 
     fn nodes(&mut self, tables: &[Table]) -> Result<Vec<Node>, Refusal> {

@@ -1,4 +1,4 @@
-//! How document 01 is read.
+//! How document 01 is read, with the requests of document 02 that have landed.
 //!
 //! Every answer is given under `Document`. The other readings are wrong; they
 //! exist so that the self-check can be shown to find each of them. The first
@@ -49,10 +49,15 @@ pub enum Reading {
     ExternalNotShared,
     /// The last listed input is bit 0 of an assignment.
     InputsReversed,
+    /// An empty successor set means state 0.
+    EmptySetIsStateZero,
+    /// An empty successor set means the state whose number is the set's place in
+    /// the table, counted over states and assignments (modulo the states).
+    EmptySetIsPlace,
 }
 
 /// Every wrong reading.
-pub const WRONG_READINGS: [Reading; 20] = [
+pub const WRONG_READINGS: [Reading; 22] = [
     Reading::EgMatchedByOperand,
     Reading::NoGuard,
     Reading::EuWithoutStepZero,
@@ -73,4 +78,6 @@ pub const WRONG_READINGS: [Reading; 20] = [
     Reading::ExternalAlwaysLow,
     Reading::ExternalNotShared,
     Reading::InputsReversed,
+    Reading::EmptySetIsStateZero,
+    Reading::EmptySetIsPlace,
 ];

@@ -70,8 +70,8 @@ fn without_state(instrument: &Instrument, c: usize, state: usize) -> Instrument 
     let mut smaller = instrument.clone();
     let table = &mut smaller.tables[c];
     table.levels.remove(state);
-    table.successors.remove(state);
-    for set in table.successors.iter_mut().flatten() {
+    table.sets.as_written_mut().remove(state);
+    for set in table.sets.as_written_mut().iter_mut().flatten() {
         set.retain(|&t| t != state);
         for t in set.iter_mut() {
             *t = renumbered(*t);
@@ -89,7 +89,7 @@ fn without_input(instrument: &Instrument, c: usize, j: usize) -> Instrument {
     let mut smaller = instrument.clone();
     let table: &mut Table = &mut smaller.tables[c];
     table.inputs.remove(j);
-    for sets in table.successors.iter_mut() {
+    for sets in table.sets.as_written_mut() {
         let mut position = 0;
         sets.retain(|_| {
             let low = !bit(position, j);
@@ -177,9 +177,10 @@ fn without_one_successor(instrument: &Instrument) -> Vec<Instrument> {
     for (c, table) in instrument.tables.iter().enumerate() {
         for s in 0..table.states() {
             for assignment in 0..table.assignments() {
-                for position in 0..table.successors[s][assignment].len() {
+                for position in 0..table.sets.as_written()[s][assignment].len() {
                     let mut smaller = instrument.clone();
-                    smaller.tables[c].successors[s][assignment].remove(position);
+                    let sets = smaller.tables[c].sets.as_written_mut();
+                    sets[s][assignment].remove(position);
                     list.push(smaller);
                 }
             }

@@ -103,8 +103,8 @@ fn steps_match(
     }
     let exempt = |t: usize| fail[t] && component.reading != Reading::FailSuccessorsMatched;
     (0..table.assignments()).all(|assignment| {
-        let of_x = &table.successors[x][assignment];
-        let of_y = &table.successors[y][assignment];
+        let of_x = table.successors(x, assignment, component.reading);
+        let of_y = table.successors(y, assignment, component.reading);
         let x_matched = of_x.iter().all(|&t| exempt(t) || of_y.iter().any(|&w| relation[t][w]));
         let y_matched = of_y.iter().all(|&w| exempt(w) || of_x.iter().any(|&t| relation[t][w]));
         x_matched && y_matched

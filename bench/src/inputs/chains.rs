@@ -2,7 +2,7 @@
 
 use super::formulas::{nested, reaching};
 use super::Input;
-use second::instrument::{Instrument, Node, Table};
+use second::instrument::{Instrument, Node, Table, WrittenSets};
 use second::prng::Prng;
 
 /// The counters' states, with the word for them in the names of inputs: three counters, and two
@@ -29,7 +29,7 @@ fn counter(c: usize, place: &[Vec<usize>; 3]) -> Table {
         levels[place[c][v]] = vec![end];
         successors[place[c][v]] = (0..4).map(next).collect();
     }
-    Table { inputs, outputs: vec![c], levels, successors }
+    Table { inputs, outputs: vec![c], levels, sets: WrittenSets::new(successors) }
 }
 
 /// The three counters with a formula.

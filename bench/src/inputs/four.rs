@@ -4,8 +4,9 @@
 use super::formulas::nested;
 use super::random::successors;
 use super::Input;
-use second::instrument::{Instrument, Node, Table};
+use second::instrument::{Instrument, Node, Table, WrittenSets};
 use second::prng::Prng;
+use second::reading::Reading;
 
 /// Component c drives signals 2c and 2c + 1 and reads one signal of each neighbour and two external
 /// ones.
@@ -16,7 +17,7 @@ fn table(prng: &mut Prng, c: usize, states: usize, share: usize) -> Table {
     let levels = (0..states).map(|_| level(prng)).collect();
     let row = |prng: &mut Prng| (0..16).map(|_| successors(prng, states, share)).collect();
     let successors = (0..states).map(|_| row(prng)).collect();
-    Table { inputs, outputs: vec![2 * c, 2 * c + 1], levels, successors }
+    Table { inputs, outputs: vec![2 * c, 2 * c + 1], levels, sets: WrittenSets::new(successors) }
 }
 
 fn four(prng: &mut Prng, states: usize, share: usize) -> Vec<Table> {
@@ -27,7 +28,7 @@ fn four(prng: &mut Prng, states: usize, share: usize) -> Vec<Table> {
 /// cases of ten, so that copies are related.
 fn cloned(prng: &mut Prng, table: &Table, times: usize) -> Table {
     let states = table.states();
-    let copies = |prng: &mut Prng, set: &Vec<usize>| {
+    let copies = |prng: &mut Prng, set: &[usize]| {
         let mut copied = Vec::new();
         for &t in set {
             let one = prng.below(times);
@@ -37,12 +38,13 @@ fn cloned(prng: &mut Prng, table: &Table, times: usize) -> Table {
         copied.sort();
         copied
     };
-    let row = |x: usize| table.successors[x % states].iter().map(|set| copies(prng, set)).collect();
+    let set = |x: usize, a: usize| table.successors(x % states, a, Reading::Document);
+    let row = |x: usize| (0..table.assignments()).map(|a| copies(prng, &set(x, a))).collect();
     Table {
         inputs: table.inputs.clone(),
         outputs: table.outputs.clone(),
         levels: vec![table.levels.clone(); times].concat(),
-        successors: (0..states * times).map(row).collect(),
+        sets: WrittenSets::new((0..states * times).map(row).collect()),
     }
 }
 
@@ -59,7 +61,7 @@ fn longest() -> Instrument {
         inputs: vec![8, 9, 10, 11],
         outputs: vec![2 * c, 2 * c + 1],
         levels: vec![vec![true; 2]; 64],
-        successors: vec![vec![(0..64).collect(); 16]; 64],
+        sets: WrittenSets::new(vec![vec![(0..64).collect(); 16]; 64]),
     };
     let tables = (0..4).map(table).collect();
     Instrument { signals: 12, tables, nodes: vec![Node::True], starts: vec![vec![63; 4]; 64] }

@@ -3,7 +3,7 @@
 
 use super::random::external;
 use super::Input;
-use second::instrument::{Instrument, Node, Table};
+use second::instrument::{Instrument, Node, Table, WrittenSets};
 use second::prng::Prng;
 
 /// States of so many classes: on the last assignment a chain of classes, which keeps states
@@ -22,7 +22,7 @@ fn table(c: usize, states: usize, inputs: Vec<usize>, classes: usize) -> Table {
     Table {
         inputs,
         levels: (0..states).map(level).collect(),
-        successors: (0..states).map(row).collect(),
+        sets: WrittenSets::new((0..states).map(row).collect()),
         outputs,
     }
 }

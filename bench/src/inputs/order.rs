@@ -4,7 +4,7 @@
 
 use super::formulas::only_eg;
 use super::Input;
-use second::instrument::{Instrument, Table};
+use second::instrument::{Instrument, Table, WrittenSets};
 
 const SIZES: [usize; 3] = [4, 32, 32];
 const WIDE_SIZES: [usize; 3] = [1, 64, 64];
@@ -35,7 +35,9 @@ fn table(c: usize, states: usize) -> Table {
         inputs: vec![others[0], others[1], 3, 4],
         outputs: vec![c],
         levels: (0..states).map(|s| vec![s == states - 1]).collect(),
-        successors: (0..states).map(|s| (0..16).map(|a| successors(s, a)).collect()).collect(),
+        sets: WrittenSets::new(
+            (0..states).map(|s| (0..16).map(|a| successors(s, a)).collect()).collect(),
+        ),
     }
 }
 
@@ -61,7 +63,7 @@ pub fn short_inputs() -> Vec<Input> {
             inputs: vec![],
             outputs: vec![],
             levels: vec![vec![]; states],
-            successors: vec![vec![(0..states).collect()]; states],
+            sets: WrittenSets::new(vec![vec![(0..states).collect()]; states]),
         };
         Input::new(name, &order(sizes, Some(still), vec![vec![0; 4]; 64]))
     };

@@ -3,7 +3,7 @@
 
 use super::formulas::nested;
 use super::Input;
-use second::instrument::{Instrument, Table};
+use second::instrument::{Instrument, Table, WrittenSets};
 use second::prng::Prng;
 
 /// Of a random instrument.
@@ -39,7 +39,7 @@ pub fn random(shape: &Shape) -> Instrument {
             (0..assignments).map(|_| successors(prng, states, shape.share)).collect()
         };
         let successors = (0..states).map(|_| sets(&mut prng)).collect();
-        tables.push(Table { inputs, outputs, levels, successors });
+        tables.push(Table { inputs, outputs, levels, sets: WrittenSets::new(successors) });
     }
     let named: Vec<usize> = if driving { (0..tables.len()).collect() } else { vec![] };
     Instrument { signals: 12, tables, nodes: nested(&named, 24), starts: vec![] }

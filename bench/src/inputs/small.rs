@@ -2,7 +2,7 @@
 
 use super::random::{random, Shape};
 use super::Input;
-use second::instrument::{Instrument, Node, Table};
+use second::instrument::{Instrument, Node, Table, WrittenSets};
 
 /// Document 01's chain: states p, p, not p; 0 goes to 1, 1 to 2, 2 stays; EG p.
 fn chain() -> Instrument {
@@ -12,7 +12,7 @@ fn chain() -> Instrument {
             inputs: vec![],
             outputs: vec![0],
             levels: vec![vec![true], vec![true], vec![false]],
-            successors: vec![vec![vec![1]], vec![vec![2]], vec![vec![2]]],
+            sets: WrittenSets::new(vec![vec![vec![1]], vec![vec![2]], vec![vec![2]]]),
         }],
         nodes: vec![Node::Signal(0), Node::Eg(0)],
         starts: vec![vec![0]],

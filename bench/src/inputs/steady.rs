@@ -1,7 +1,7 @@
 //! Chains that go on whatever is read: slow for marks and relations, a state more in each round.
 
 use super::Input;
-use second::instrument::{Instrument, Node, Table};
+use second::instrument::{Instrument, Node, Table, WrittenSets};
 
 /// From state to state, upwards or downwards, and stays at the end, where it drives signal c.
 fn chain(c: usize, states: usize, up: bool) -> Table {
@@ -12,7 +12,12 @@ fn chain(c: usize, states: usize, up: bool) -> Table {
         levels[place(v)] = vec![v == states - 1];
         successors[place(v)] = vec![vec![place((v + 1).min(states - 1))]; 16];
     }
-    Table { inputs: vec![8, 9, 10, 11], outputs: vec![c], levels, successors }
+    Table {
+        inputs: vec![8, 9, 10, 11],
+        outputs: vec![c],
+        levels,
+        sets: WrittenSets::new(successors),
+    }
 }
 
 /// Four chains of these state counts, started at 0.

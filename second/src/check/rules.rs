@@ -28,11 +28,19 @@ pub fn simple_marks_right(table: &Table, node: &Node, marks: &[Marks], own: &Mar
     })
 }
 
+/// Whether the state goes to t on the assignment: t is a member of the written
+/// set, or there is none and t is the state. Document 02, 2/14.
+pub fn goes(table: &Table, state: usize, assignment: usize, t: usize) -> bool {
+    let written = &table.sets.as_written()[state][assignment];
+    written.contains(&t) || (t == state && written.is_empty())
+}
+
 /// Whether no assignment is without a successor in the set.
 pub fn no_assignment_without(table: &Table, state: usize, set: &[bool]) -> bool {
     let mut without = 0;
-    for successors in &table.successors[state] {
-        without += usize::from(!successors.iter().any(|&t| set[t]));
+    for assignment in 0..table.assignments() {
+        let into = (0..set.len()).any(|t| set[t] && goes(table, state, assignment, t));
+        without += usize::from(!into);
     }
     without == 0
 }
@@ -99,16 +107,16 @@ impl Rule<'_> {
         x: usize,
         y: usize,
     ) -> bool {
+        let states = 0..self.table.states();
         for assignment in 0..self.table.assignments() {
-            let of_x = &self.table.successors[x][assignment];
-            let of_y = &self.table.successors[y][assignment];
-            for &t in of_x {
-                if !fail[t] && !of_y.iter().any(|&w| related[t][w]) {
+            let of = |s: usize| states.clone().filter(move |&t| goes(self.table, s, assignment, t));
+            for t in of(x) {
+                if !fail[t] && !of(y).any(|w| related[t][w]) {
                     return false;
                 }
             }
-            for &w in of_y {
-                if !fail[w] && !of_x.iter().any(|&t| related[t][w]) {
+            for w in of(y) {
+                if !fail[w] && !of(x).any(|t| related[t][w]) {
                     return false;
                 }
             }

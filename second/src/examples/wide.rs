@@ -1,13 +1,13 @@
 //! Instruments with components of more than 32 states.
 
 use super::{all_to_zero, counter, counters};
-use crate::instrument::{Instrument, Node, Table};
+use crate::instrument::{Instrument, Node, Table, WrittenSets};
 use crate::word::bit;
 
 /// One component with the given number of states, each of which goes to the last.
 pub fn all_to_last(states: usize) -> Instrument {
     let mut instrument = all_to_zero(states);
-    instrument.tables[0].successors = vec![vec![vec![states - 1]]; states];
+    instrument.tables[0].sets = WrittenSets::new(vec![vec![vec![states - 1]]; states]);
     instrument
 }
 
@@ -41,13 +41,13 @@ pub fn stage() -> Instrument {
         inputs: vec![2],
         outputs: vec![0, 1],
         levels: (0..51).map(|s| vec![s == 0, s == 50]).collect(),
-        successors: (0..51).map(|s| vec![vec![s], next(s)]).collect(),
+        sets: WrittenSets::new((0..51).map(|s| vec![vec![s], next(s)]).collect()),
     };
     let lid = Table {
         inputs: vec![3],
         outputs: vec![2],
         levels: vec![vec![true], vec![false]],
-        successors: vec![vec![vec![0], vec![1]], vec![vec![1], vec![0]]],
+        sets: WrittenSets::new(vec![vec![vec![0], vec![1]], vec![vec![1], vec![0]]]),
     };
     // Some path reaches the end; some path never does; one step to the end.
     let nodes = vec![
@@ -72,7 +72,8 @@ pub fn gated() -> Instrument {
     let mut instrument = counters(&[64, 3]);
     let gated = &mut instrument.tables[0];
     gated.inputs = vec![2];
-    gated.successors = (0..64).map(|s| vec![vec![s], vec![(s + 1) % 64]]).collect();
+    let sets = (0..64).map(|s| vec![vec![s], vec![(s + 1) % 64]]).collect();
+    gated.sets = WrittenSets::new(sets);
     instrument.signals = 3;
     instrument
 }
@@ -84,7 +85,7 @@ pub fn chain_from_last() -> Instrument {
     let chain = &mut instrument.tables[0];
     chain.levels = (0..64).map(|s| vec![s == 62]).collect();
     let next = |s: usize| if s == 62 { 62 } else { (s + 1) % 64 };
-    chain.successors = (0..64).map(|s| vec![vec![next(s)]]).collect();
+    chain.sets = WrittenSets::new((0..64).map(|s| vec![vec![next(s)]]).collect());
     instrument
 }
 
@@ -102,7 +103,7 @@ pub fn guarded_pair() -> Instrument {
         inputs: vec![],
         outputs: (0..7).collect(),
         levels: (0..64).map(levels).collect(),
-        successors: (0..64).map(|s| vec![vec![(s + 1).min(63)]]).collect(),
+        sets: WrittenSets::new((0..64).map(|s| vec![vec![(s + 1).min(63)]]).collect()),
     };
     let mut nodes: Vec<Node> = (0..8).map(Node::Signal).collect();
     nodes.push(Node::Eg(6));

@@ -1,7 +1,7 @@
 //! Random tables, with duplicated states so that merging is real.
 
 use super::shapes::Shape;
-use crate::instrument::Table;
+use crate::instrument::{Table, WrittenSets};
 use crate::prng::Prng;
 
 /// Up to `shape.inputs` signals that the component does not drive, ascending.
@@ -25,7 +25,7 @@ pub fn random_table(
     outputs: Vec<usize>,
 ) -> Table {
     let like_chain = prng.percent(40);
-    let mut table = Table { inputs, outputs, levels: vec![], successors: vec![] };
+    let mut table = Table { inputs, outputs, levels: vec![], sets: WrittenSets::new(vec![]) };
     let mut levels: Vec<bool> = table.outputs.iter().map(|_| prng.percent(50)).collect();
     for s in 0..states {
         for level in levels.iter_mut() {
@@ -45,7 +45,7 @@ pub fn random_table(
         if prng.percent(30) {
             sets = vec![sets[0].clone(); sets.len()];
         }
-        table.successors.push(sets);
+        table.sets.as_written_mut().push(sets);
     }
     table
 }
@@ -71,11 +71,12 @@ pub fn with_duplicates(prng: &mut Prng, table: &Table, states: usize) -> Table {
     }
     let mut duplicated = table.clone();
     duplicated.levels = origin.iter().map(|&s| table.levels[s].clone()).collect();
-    duplicated.successors = Vec::new();
+    let mut sets: Vec<Vec<Vec<usize>>> = Vec::new();
     for &s in &origin {
-        let sets = table.successors[s].iter().map(|set| repeats_of(prng, &origin, set)).collect();
-        duplicated.successors.push(sets);
+        let of_state = table.sets.as_written()[s].iter();
+        sets.push(of_state.map(|set| repeats_of(prng, &origin, set)).collect());
     }
+    duplicated.sets = WrittenSets::new(sets);
     duplicated
 }
 
@@ -96,7 +97,7 @@ fn repeats_of(prng: &mut Prng, origin: &[usize], set: &[usize]) -> Vec<usize> {
 /// of the states.
 pub fn make_dense(prng: &mut Prng, table: &mut Table, percentage: usize) {
     let states = table.states();
-    for set in table.successors.iter_mut().flatten() {
+    for set in table.sets.as_written_mut().iter_mut().flatten() {
         if prng.percent(percentage) {
             let surely = prng.below(states);
             *set = (0..states).filter(|&t| t == surely || prng.percent(50)).collect();
@@ -108,5 +109,6 @@ pub fn make_dense(prng: &mut Prng, table: &mut Table, percentage: usize) {
 pub fn change_one_set(prng: &mut Prng, table: &mut Table) {
     let state = prng.below(table.states());
     let assignment = prng.below(table.assignments());
-    table.successors[state][assignment] = random_set(prng, table.states());
+    let set = random_set(prng, table.states());
+    table.sets.as_written_mut()[state][assignment] = set;
 }

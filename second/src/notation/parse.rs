@@ -10,7 +10,7 @@ pub fn from_text(text: &str) -> Result<Instrument, TextError> {
     let end = Line { number: text.lines().count() + 1, words: vec!["end".to_string()] };
     let signals = signal_names(lines.first().unwrap_or(&end))?;
     let (of_tables, rest) =
-        split(&lines[1..], &["component", "inputs", "outputs", "state", "goes", "on"]);
+        split(&lines[1..], &["component", "inputs", "outputs", "state", "goes", "stays", "on"]);
     let (of_nodes, rest) = split(rest, &["node"]);
     let (of_starts, rest) = split(rest, &["start"]);
     if let Some(line) = rest.first() {

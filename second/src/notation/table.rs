@@ -1,7 +1,7 @@
 //! A component's lines of the text notation.
 
 use super::lines::{Line, Names, TextError};
-use crate::instrument::Table;
+use crate::instrument::{Table, WrittenSets};
 use crate::limits;
 use crate::word::power;
 
@@ -26,14 +26,14 @@ pub fn table(
         }
     }
     let states = state_names(line, lines)?;
-    let mut table = Table { inputs, outputs, levels: vec![], successors: vec![] };
+    let mut table = Table { inputs, outputs, levels: vec![], sets: WrittenSets::new(vec![]) };
     let begins: Vec<usize> = (0..lines.len()).filter(|&i| lines[i].first() == "state").collect();
     for (s, &begin) in begins.iter().enumerate() {
         let end = begins.get(s + 1).copied().unwrap_or(lines.len());
         let levels = levels(&lines[begin], signals, &table.outputs)?;
         table.levels.push(levels);
         let sets = sets(&lines[begin], &lines[begin + 1..end], &states, table.inputs.len())?;
-        table.successors.push(sets);
+        table.sets.as_written_mut().push(sets);
     }
     Ok(table)
 }
@@ -66,7 +66,7 @@ fn state_names(component: &Line, lines: &[Line]) -> Result<Names, TextError> {
                 return line.error("a state line is: state NAME drives SIGNALS");
             }
             "state" => states.add(line, &line.words[1])?,
-            "goes" | "on" if states.count() > 0 => {}
+            "goes" | "stays" | "on" if states.count() > 0 => {}
             word => return line.error(format!("{word} is not expected here")),
         }
         if states.count() > limits::STATES {
@@ -93,8 +93,9 @@ fn levels(line: &Line, signals: &Names, outputs: &[usize]) -> Result<Vec<bool>, 
     Ok(levels)
 }
 
-/// The successor set on each assignment, from the lines after a state line:
-/// `goes STATES` once for all assignments, or `on DIGITS goes STATES` for each.
+/// The successor set on each assignment, as it is written in the file, from the
+/// lines after a state line: `goes STATES` or `stays` once for all assignments, or
+/// `on DIGITS` and either of them for each.
 fn sets(
     state: &Line,
     lines: &[Line],
@@ -104,22 +105,17 @@ fn sets(
     let assignments = power(inputs) as usize;
     let mut sets: Vec<Option<Vec<usize>>> = vec![None; assignments];
     for line in lines {
-        let (which, names) = if line.first() == "goes" {
-            ((0..assignments).collect(), line.rest())
-        } else if line.words.len() >= 3 && line.words[2] == "goes" {
-            (vec![assignment(line, inputs)?], &line.words[3..])
+        let (which, words) = if line.first() == "on" && line.words.len() >= 3 {
+            (vec![assignment(line, inputs)?], &line.words[2..])
         } else {
-            return line.error("a successor line is: goes STATES, or: on DIGITS goes STATES");
+            ((0..assignments).collect(), &line.words[..])
         };
-        let successors = states.ascending(line, names)?;
-        if successors.is_empty() {
-            return line.error("a successor set is not empty");
-        }
+        let set = set(line, words, states)?;
         for assignment in which {
             if sets[assignment].is_some() {
                 return line.error("the successors on an assignment are given twice");
             }
-            sets[assignment] = Some(successors.clone());
+            sets[assignment] = Some(set.clone());
         }
     }
     match sets.into_iter().collect() {
@@ -128,7 +124,18 @@ fn sets(
     }
 }
 
-/// The assignment of `on DIGITS goes ..`: the j-th digit is the level of the
+/// One successor set: `goes STATES`, or `stays` for the empty one.
+fn set(line: &Line, words: &[String], states: &Names) -> Result<Vec<usize>, TextError> {
+    match (words[0].as_str(), &words[1..]) {
+        ("stays", []) => Ok(vec![]),
+        ("stays", _) => line.error("stays takes no states"),
+        ("goes", []) => line.error("goes takes a state at least; the empty set is: stays"),
+        ("goes", names) => states.ascending(line, names),
+        _ => line.error("a successor line is: [on DIGITS] goes STATES, or: [on DIGITS] stays"),
+    }
+}
+
+/// The assignment of `on DIGITS ..`: the j-th digit is the level of the
 /// j-th listed input.
 fn assignment(line: &Line, inputs: usize) -> Result<usize, TextError> {
     let digits: Vec<char> = line.words[1].chars().collect();

@@ -41,17 +41,26 @@ fn table_text(table: &Table) -> String {
         let high = |signal: &&usize| table.drives_high(state, **signal);
         let driven: Vec<usize> = table.outputs.iter().filter(high).copied().collect();
         text += &line(&format!("  state {state} drives"), &signal_names(&driven));
-        let sets = &table.successors[state];
+        let sets = &table.sets.as_written()[state];
         if sets.iter().all(|set| *set == sets[0]) {
-            text += &line("    goes", &numbers(&sets[0]));
+            text += &format!("    {}", set_text(&sets[0]));
         } else {
             for (assignment, set) in sets.iter().enumerate() {
                 let digits = digits(assignment, table.inputs.len());
-                text += &line(&format!("    on {digits} goes"), &numbers(set));
+                text += &format!("    on {digits} {}", set_text(set));
             }
         }
     }
     text
+}
+
+/// A successor set as it is written in the file.
+fn set_text(set: &[usize]) -> String {
+    if set.is_empty() {
+        line("stays", &[])
+    } else {
+        line("goes", &numbers(set))
+    }
 }
 
 /// The levels of the listed inputs, in the order of the list.

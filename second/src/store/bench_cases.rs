@@ -18,7 +18,7 @@ pub fn cases() -> Vec<Case> {
 }
 
 /// A case whose asked states are drawn with the seed where the file is good.
-fn case(name: &str, file: Vec<u8>) -> Case {
+pub fn case(name: &str, file: Vec<u8>) -> Case {
     let asked = match read(&file) {
         Ok(accepted) => asked_states(&mut Prng::new(file.len() as u64), &accepted.instrument),
         Err(_) => vec![[0, 0, 0, 0], [1, 0, 2, 0]],
@@ -26,7 +26,7 @@ fn case(name: &str, file: Vec<u8>) -> Case {
     Case::of(name, file, &asked)
 }
 
-fn good(name: &str, instrument: &Instrument) -> Case {
+pub fn good(name: &str, instrument: &Instrument) -> Case {
     case(name, write(instrument))
 }
 
@@ -86,7 +86,7 @@ fn wide_cases() -> Vec<Case> {
 /// A counter that goes from state 7 to every state.
 fn with_full_set(states: usize) -> Instrument {
     let mut instrument = counters(&[states]);
-    instrument.tables[0].successors[7] = vec![(0..states).collect()];
+    instrument.tables[0].sets.as_written_mut()[7] = vec![(0..states).collect()];
     instrument
 }
 
