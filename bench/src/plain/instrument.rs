@@ -9,7 +9,7 @@ pub struct Table {
     pub outputs: Vec<u32>,
     /// For each state, the word of its outputs.
     pub words: Vec<u32>,
-    /// State by state and assignment by assignment, the successor set.
+    /// State by state and assignment by assignment, the successor set, filled if it was empty.
     pub nexts: Vec<StateSet>,
 }
 

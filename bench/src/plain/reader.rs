@@ -89,11 +89,13 @@ impl Reader<'_> {
         Ok(words)
     }
 
-    /// So many successor sets of this many states.
-    fn sets(&mut self, count: usize, states: usize) -> Read<Vec<StateSet>> {
+    /// The successor sets of this many states, so many inputs read. An empty one is the state.
+    fn sets(&mut self, states: usize, inputs: usize) -> Read<Vec<StateSet>> {
+        let count = states << inputs;
         let mut sets = Vec::with_capacity(count);
-        for _ in 0..count {
-            sets.push(self.between(1, below(states), Refusal::Bits)?);
+        for place in 0..count {
+            let set = self.between(0, below(states), Refusal::Bits)?;
+            sets.push(if set == 0 { 1 << (place >> inputs) } else { set });
         }
         Ok(sets)
     }
@@ -104,7 +106,7 @@ impl Reader<'_> {
         let (outputs, drives) = self.ports(8, signals, own | *driven)?;
         *driven |= drives;
         let words = self.words(states, outputs.len())?;
-        let nexts = self.sets(states << inputs.len(), states)?;
+        let nexts = self.sets(states, inputs.len())?;
         Ok(Table { states, inputs, outputs, words, nexts })
     }
 
