@@ -1,11 +1,12 @@
 //! The text notation.
 
-use second::examples::{CHAIN, PAIR};
+use second::examples::{stays, CHAIN, PAIR};
 use second::fields::write;
 use second::notation::{from_text, to_text};
 
 const CHAIN_TEXT: &str = include_str!("../examples/chain.txt");
 const PAIR_TEXT: &str = include_str!("../examples/pair.txt");
+const STAYS_TEXT: &str = include_str!("../examples/stays.txt");
 
 #[test]
 fn examples_are_the_files_of_document_01() {
@@ -14,8 +15,17 @@ fn examples_are_the_files_of_document_01() {
 }
 
 #[test]
+fn an_empty_set_and_a_spelled_out_stay_are_two_texts() {
+    let instrument = from_text(STAYS_TEXT).expect("the example");
+    assert_eq!(write(&instrument), stays::PAIR);
+    let of_first = "  state 0 drives s0\n    on 0 stays\n    on 1 goes 0\n";
+    let of_second = "  state 1 drives\n    on 0 goes 1\n    on 1 stays\n";
+    assert!(to_text(&instrument).contains(&(of_first.to_string() + of_second)));
+}
+
+#[test]
 fn text_is_stable() {
-    for text in [CHAIN_TEXT, PAIR_TEXT] {
+    for text in [CHAIN_TEXT, PAIR_TEXT, STAYS_TEXT] {
         let instrument = from_text(text).expect("an example");
         let written = to_text(&instrument);
         let again = from_text(&written).expect("the written text");
@@ -32,7 +42,7 @@ fn message(piece: &str, replacement: &str) -> String {
 }
 
 /// A piece of the chain's text, its replacement, and the message.
-const ERRORS: [(&str, &str, &str); 23] = [
+const ERRORS: [(&str, &str, &str); 27] = [
     ("signals p\n", "\n", "line 3: the first line is: signals NAMES"),
     ("signals p", "signals p p", "line 2: signal p is named twice"),
     ("signals p", "signals a b c d e f g h i j k l m", "line 2: there are more than 12 signals"),
@@ -48,7 +58,19 @@ const ERRORS: [(&str, &str, &str); 23] = [
     ("state 1 drives p", "state 5 drives p", "line 8: state 5 is state number 1"),
     ("state 1 drives p", "state 1", "line 8: a state line is: state NAME drives SIGNALS"),
     ("state 1 drives p", "state 1 drives p p", "line 8: signal p is listed twice"),
-    ("    goes 1\n", "    goes\n", "line 7: a successor set is not empty"),
+    ("    goes 1\n", "    goes\n", "line 7: goes takes a state at least; the empty set is: stays"),
+    ("    goes 1\n", "    stays 0\n", "line 7: stays takes no states"),
+    ("    goes 1\n", "    on 0 stays\n", "line 7: after on there are 0 digits, each 0 or 1"),
+    (
+        "    goes 1\n",
+        "    stays\n    goes 1\n",
+        "line 8: the successors on an assignment are given twice",
+    ),
+    (
+        "    goes 1\n",
+        "    on 1\n",
+        "line 7: a successor line is: [on DIGITS] goes STATES, or: [on DIGITS] stays",
+    ),
     ("    goes 1\n", "    goes 2 1\n", "line 7: state 1 is not in ascending order"),
     ("    goes 1\n", "    goes 7\n", "line 7: there is no state 7 here"),
     ("    goes 1\n", "", "line 6: the state has no successors on some assignment"),
