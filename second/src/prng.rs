@@ -18,6 +18,11 @@ impl Prng {
         z ^ (z >> 31)
     }
 
+    /// Another generator, from the place reached here; this one does not move.
+    pub fn aside(&self) -> Prng {
+        Prng::new(Prng::new(!self.state).draw())
+    }
+
     /// A number from 0 to limit - 1.
     pub fn below(&mut self, limit: usize) -> usize {
         (self.draw() % limit as u64) as usize

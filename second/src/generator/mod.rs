@@ -2,6 +2,7 @@
 
 mod formula;
 mod shapes;
+mod stays;
 mod tables;
 
 use crate::instrument::{Instrument, Node, Table};
@@ -13,6 +14,7 @@ use formula::formula;
 pub use shapes::{
     at_limits, large_alike, large_different, medium, small, tiny, two_wide, wide, widest, Shape,
 };
+use stays::{add_stays, respell};
 pub use tables::random_table;
 use tables::{change_one_set, listed_inputs, make_dense, with_duplicates};
 
@@ -31,8 +33,26 @@ pub fn instrument(prng: &mut Prng) -> Instrument {
     instrument_of(prng, &shape)
 }
 
-/// An instrument of the shape: each signal is driven by one component or is external.
+/// An instrument of the shape, some with further stays, and stays written both
+/// ways. Both are drawn aside, so that all other draws are as without them.
 pub fn instrument_of(prng: &mut Prng, shape: &Shape) -> Instrument {
+    let mut instrument = without_empty_sets(prng, shape);
+    let mut aside = prng.aside();
+    add_stays(&mut aside, &mut instrument);
+    respell(&mut aside, &mut instrument);
+    instrument
+}
+
+/// The same without further stays.
+pub fn respelled_of(prng: &mut Prng, shape: &Shape) -> Instrument {
+    let mut instrument = without_empty_sets(prng, shape);
+    respell(&mut prng.aside(), &mut instrument);
+    instrument
+}
+
+/// An instrument of the shape: each signal is driven by one component or is
+/// external. Every stay is spelled out.
+pub fn without_empty_sets(prng: &mut Prng, shape: &Shape) -> Instrument {
     let components = shape.sizes.len();
     let mut outputs = vec![Vec::new(); components];
     for signal in 0..shape.signals {
