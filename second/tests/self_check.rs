@@ -24,6 +24,10 @@ fn no_violation_and_everything_is_met() {
         "full above 4,096 and merged not",
         "truths by lassos",
         "pairs of components never marked both ways",
+        "files with all stays SpelledOut",
+        "files with all stays Empty",
+        "lookups of files with other stays",
+        "stretches",
     ] {
         assert!(counts.of(name) > 0, "{name}");
     }

@@ -8,6 +8,7 @@ mod marks;
 mod merged;
 mod relation;
 mod rules;
+mod stays;
 mod steps;
 
 use crate::combination::{self, Combination};
@@ -64,5 +65,6 @@ pub fn check(
     merged::check_verdict(&checked, counts)?;
     lassos::check(&checked, counts)?;
     enumeration::check(&checked, counts)?;
+    stays::check(&checked, &mut prng, counts)?;
     files::check_lent_buffers(&checked.queries, counts)
 }
