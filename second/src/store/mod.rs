@@ -8,6 +8,7 @@ mod output;
 mod random_cases;
 mod reading_cases;
 pub mod refusal_cases;
+mod stay_cases;
 mod wide_rows;
 
 pub use case::Case;
@@ -17,6 +18,7 @@ pub use output::{output, output_under};
 /// All cases, in the order of `args`.
 pub fn cases() -> Vec<Case> {
     let mut cases = bench_cases::cases();
+    cases.extend(stay_cases::cases());
     cases.extend(refusal_cases::cases());
     cases.extend(reading_cases::cases());
     cases.extend(random_cases::cases());

@@ -5,7 +5,7 @@ use crate::damage::damaged;
 use crate::fields::write;
 use crate::generator::{
     at_limits, instrument_of, large_alike, large_different, medium, small, tiny, two_wide, wide,
-    widest, Shape,
+    widest, without_empty_sets, Shape,
 };
 use crate::instrument::Instrument;
 use crate::prng::Prng;
@@ -25,7 +25,8 @@ const TWO_WIDE: usize = 4;
 const DAMAGED: usize = 160;
 
 /// Instruments with a component of 64 states whose classes are others if the last
-/// state is left out of one part of a refinement; few seeds give such ones.
+/// state is left out of one part of a refinement; few seeds give such ones. Their
+/// stays are spelled out.
 const WIDEST_SEED: u64 = 7_000_000_000;
 const WIDEST: [u64; 5] = [16, 25, 58, 78, 461];
 
@@ -35,10 +36,11 @@ pub fn cases() -> Vec<Case> {
     let good = shapes.len();
     for (position, shape) in shapes.iter().enumerate() {
         let prng = Prng::new(FIRST_SEED + position as u64);
-        cases.push(good_case(&format!("good_{position:03}"), prng, *shape));
+        cases.push(good_case(&format!("good_{position:03}"), prng, *shape, instrument_of));
     }
     for seed in WIDEST {
-        cases.push(good_case(&format!("widest_{seed:03}"), Prng::new(WIDEST_SEED + seed), widest));
+        let prng = Prng::new(WIDEST_SEED + seed);
+        cases.push(good_case(&format!("widest_{seed:03}"), prng, widest, without_empty_sets));
     }
     for position in 0..DAMAGED {
         let mut prng = Prng::new(FIRST_SEED + (good + position) as u64);
@@ -57,9 +59,14 @@ pub fn cases() -> Vec<Case> {
 }
 
 /// A good instrument of a shape, asked everything.
-fn good_case(name: &str, mut prng: Prng, shape: Draw) -> Case {
+fn good_case(
+    name: &str,
+    mut prng: Prng,
+    shape: Draw,
+    drawn: fn(&mut Prng, &Shape) -> Instrument,
+) -> Case {
     let shape = shape(&mut prng);
-    let instrument = instrument_of(&mut prng, &shape);
+    let instrument = drawn(&mut prng, &shape);
     let asked = asked_states(&mut prng, &instrument);
     Case::of(name, write(&instrument), &asked)
 }

@@ -4,7 +4,7 @@
 use super::random_cases::asked_states;
 use super::{output, output_under, Case};
 use crate::fields::write;
-use crate::generator::{instrument_of, large_different, medium, small, tiny};
+use crate::generator::{large_different, medium, respelled_of, small, tiny};
 use crate::instrument::Instrument;
 use crate::prng::Prng;
 use crate::queries::Queries;
@@ -15,6 +15,8 @@ use crate::refusal::Refusal;
 const FIRST_SEED: u64 = 2_000_000_000;
 /// Seeds of one reading are this far from those of the next.
 const SEEDS: u64 = 1_000_000;
+/// The first seed of the cases above 4,096 merged states, which are drawn larger.
+const FIRST_LARGE_SEED: u64 = 2_020_000_000;
 /// Cases for each wrong reading.
 const FOR_EACH_READING: usize = 8;
 /// Cases above 4,096 merged states.
@@ -22,15 +24,14 @@ const MERGED_TOO_LARGE: usize = 6;
 
 pub fn cases() -> Vec<Case> {
     let mut cases = Vec::new();
-    let mut first = FIRST_SEED;
     for (r, reading) in WRONG_READINGS.into_iter().enumerate() {
         let name = format!("reading_{r:02}");
+        let first = FIRST_SEED + r as u64 * SEEDS;
         cases.extend(found(&name, first, FOR_EACH_READING, &drawn_small, &|case| {
             output(case) != output_under(case, reading)
         }));
-        first += SEEDS;
     }
-    cases.extend(found("merged_over", first, MERGED_TOO_LARGE, &drawn_large, &|case| {
+    cases.extend(found("merged_over", FIRST_LARGE_SEED, MERGED_TOO_LARGE, &drawn_large, &|case| {
         let queries = Queries::of(&case.file);
         queries.is_ok_and(|queries| queries.merged() == Err(Refusal::MergedTooLarge))
     }));
@@ -67,10 +68,10 @@ fn drawn_small(prng: &mut Prng) -> Instrument {
         3 => medium(prng),
         _ => small(prng),
     };
-    instrument_of(prng, &shape)
+    respelled_of(prng, &shape)
 }
 
 fn drawn_large(prng: &mut Prng) -> Instrument {
     let shape = large_different(prng);
-    instrument_of(prng, &shape)
+    respelled_of(prng, &shape)
 }

@@ -2,7 +2,7 @@
 
 use super::wide_rows;
 use super::Case;
-use crate::examples::{CHAIN, PAIR};
+use crate::examples::{stays, CHAIN, PAIR};
 
 /// 2^64 - 1.
 const LARGEST: [u8; 10] = [255, 255, 255, 255, 255, 255, 255, 255, 255, 1];
@@ -25,6 +25,7 @@ pub fn rows() -> Vec<Row> {
     rows.extend(count_rows());
     rows.extend(table_rows());
     rows.extend(formula_and_start_rows());
+    rows.extend(empty_set_rows());
     rows.extend(wide_rows::rows());
     rows
 }
@@ -98,9 +99,43 @@ fn table_rows() -> Vec<Row> {
         changed("r06_word", &CHAIN, 6, &[2], 6),
         changed("r06_word_none", &[1, 0, 1, 0, 0, 0, 1, 1, 0, 0], 5, &[1], 6),
         changed("r06_set_high", &CHAIN, 10, &[8], 6),
-        changed("r06_set_empty", &CHAIN, 10, &[0], 6),
         changed("r06_word_largest", &CHAIN, 6, &LARGEST, 6),
         changed("r06_set_largest", &CHAIN, 10, &LARGEST, 6),
+    ]
+}
+
+/// Faults beside empty successor sets, and in their form. Document 02, 2/14.
+fn empty_set_rows() -> Vec<Row> {
+    // The chain up to its successor sets.
+    let chain = &CHAIN[..9];
+    // Its nodes and start.
+    let rest = &CHAIN[12..];
+    let with = |name: &str, sets: &[u8], number: usize| Row {
+        name: name.to_string(),
+        file: [chain, sets, rest].concat(),
+        number,
+    };
+    let ten = [128, 128, 128, 128, 128, 128, 128, 128, 128, 0];
+    vec![
+        cut("r01_empty_first", &CHAIN, 9, &[0], 1),
+        cut("r01_empty_last", &CHAIN, 9, &[0, 0, 0], 1),
+        cut("r01_pair_empty", &PAIR, 9, &[0, 1, 2, 0], 1),
+        with("r02_empty_first", &[128, 0, 0, 0], 2),
+        with("r02_empty_last", &[2, 4, 128, 0], 2),
+        with("r02_empty_3b", &[0, 128, 128, 0, 0], 2),
+        with("r02_empty_10b", &[&ten[..], &[0, 0]].concat(), 2),
+        with("r06_after_empty", &[0, 0, 8], 6),
+        with("r06_between", &[0, 8, 0], 6),
+        with("r06_before_empty", &[8, 0, 0], 6),
+        with("r06_largest_then", &[&LARGEST[..], &[0, 0]].concat(), 6),
+        with("r06_and_good", &[0, 0, 12], 6),
+        // The first fault is the first set's, the second set's form comes after it.
+        with("r06_then_form", &[8, 128, 0, 0], 6),
+        with("r02_then_high", &[128, 0, 8, 0], 2),
+        // A bit at the state count beside empty sets, of a pair with an input.
+        changed("r06_pair_empty", &stays::PAIR, 11, &[4], 6),
+        changed("r06_pair_word", &stays::PAIR, 8, &[2], 6),
+        changed("r06_pair_last", &stays::PAIR, 20, &[4], 6),
     ]
 }
 

@@ -3,7 +3,7 @@
 
 use super::refusal_cases::{changed, cut, Row};
 use crate::damage::with_bytes;
-use crate::examples::{counters, CHAIN, PAIR};
+use crate::examples::{counters, stays, CHAIN, PAIR};
 use crate::fields::{fields, write, Field, Place};
 use crate::instrument::{Instrument, Node};
 use crate::number::write_number;
@@ -55,15 +55,19 @@ fn form_rows() -> Vec<Row> {
     ]
 }
 
-/// Successor sets with the lowest bit too high, and with all bits.
+/// Successor sets with the lowest bit too high, and with all bits; also where all
+/// other sets are empty.
 fn width_rows() -> Vec<Row> {
-    let with_set = |name: &str, states: usize, set: u64| {
-        let fields = fields(&counters(&[states]));
+    let row = |name: &str, instrument: &Instrument, set: u64| {
+        let states = instrument.tables[0].states();
+        let fields = fields(instrument);
         let position = fields.iter().position(|field| field.place == Place::SuccessorSet(0));
         let position = position.expect("a table has a successor set");
         let file = with_bytes(&fields, position + states / 2, &write_number(set)).0;
         Row { name: name.to_string(), file, number: 6 }
     };
+    let with_set = |name: &str, states, set| row(name, &counters(&[states]), set);
+    let beside_empty = |name: &str, states, set| row(name, &stays::only_empty(states, 0), set);
     vec![
         with_set("r06_31_bit_31", 31, 1 << 31),
         with_set("r06_32_bit_32", 32, 1 << 32),
@@ -73,7 +77,9 @@ fn width_rows() -> Vec<Row> {
         with_set("r06_62_bit_62", 62, 1 << 62),
         with_set("r06_63_bit_63", 63, 1 << 63),
         with_set("r06_63_all", 63, u64::MAX),
-        with_set("r06_64_empty", 64, 0),
+        beside_empty("r06_31_empty", 31, 1 << 31),
+        beside_empty("r06_32_empty", 32, 1 << 32),
+        beside_empty("r06_63_empty", 63, 1 << 63),
     ]
 }
 
