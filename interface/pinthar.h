@@ -36,7 +36,7 @@ enum {
     PINTHAR_OUTSIDE_RANGE = 3,       /* count, or asked component number, outside its range */
     PINTHAR_LISTED_SIGNAL = 4,       /* listed signal not ascending or not below W */
     PINTHAR_OUTPUT_TAKEN = 5,        /* output already driven, or also an own input */
-    PINTHAR_WORD_OR_SET = 6,         /* output word or successor set with a bit too high, or empty set */
+    PINTHAR_WORD_OR_SET = 6,         /* output word or successor set with a bit too high */
     PINTHAR_KIND_OR_OPERAND = 7,     /* unknown kind, or operand not an earlier node */
     PINTHAR_UNDRIVEN_SIGNAL = 8,     /* formula names a signal that no component drives */
     PINTHAR_NO_SUCH_STATE = 9,       /* start or asked state not in its component */

@@ -49,7 +49,7 @@ impl Refusal {
             Refusal::OutsideRange => "count, or asked component number, outside its range",
             Refusal::ListedSignal => "listed signal not ascending or not below W",
             Refusal::OutputTaken => "output already driven, or also an own input",
-            Refusal::WordOrSet => "output word or successor set with a bit too high, or empty set",
+            Refusal::WordOrSet => "output word or successor set with a bit too high",
             Refusal::KindOrOperand => "unknown kind, or operand not an earlier node",
             Refusal::UndrivenSignal => "formula names a signal that no component drives",
             Refusal::NoSuchState => "start or asked state not in its component",
