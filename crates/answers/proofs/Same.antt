@@ -13,9 +13,9 @@ use Rattle.meaning.specs.File.Number.{choose}
 use Rattle.meaning.specs.File.Parser.{Done, Got, done, fault, found, on}
 use Rattle.meaning.specs.File.Promise.{noComponent}
 use Rattle.meaning.specs.File.Spelling.{SameButStays}
-use Rattle.meaning.specs.File.Stretches.{Stretch, located, stretchOf}
+use Rattle.meaning.specs.File.Stretches.{located, stretchOf}
 use Rattle.meaning.proofs.File.Spelling.{same-said}
-use Rattle.meaning.proofs.File.Stretched.{component-stands}
+use Rattle.meaning.proofs.File.Stretched.{component-stands, located-accepted}
 use Rattle.answers.specs.Buffers.{Outcome}
 use Rattle.answers.specs.Outcomes.{Reply, after, classOutcome, componentBytes, fullOutcome, judgement, lookupOf, lookupReply, markOutcome, mergedOutcome}
 use Rattle.answers.specs.Outcomes.{replyAfter, verdictOf, verdictReply}
@@ -32,12 +32,6 @@ no-fault r e = let z : _≡_ {A = ℕ} 0 1 = cc in let y : ⊥ = omega arith in 
 -- the number of a fault, whatever was to be found
 fault-same : {A B : Type 0} (q r : ℕ) → _≡_ {A = Got A} (fault q) (fault r) → _≡_ {A = Got B} (fault q) (fault r)
 fault-same q r h = ap (λ g. on g (λ a at. fault 0)) h
-
-located-accepted : (file : List ℕ) (c : ℕ) (k : Contents) (end : ℕ) → readFile file ≡ found k end → ltb c (length (k .components)) ≡ true
-    → located file c ≡ stretchOf c file 0
-located-accepted file c k end e l =
-    ap (λ g. on g (λ k end. choose (ltb c (length (k .components))) (stretchOf c file 0) (fault 3))) e
-    ∙ ap (λ b. choose b (stretchOf c file 0) (fault 3)) l
 
 module _ (c : ℕ) where
   -- as what is read tells it: the file's first fault, then 3
@@ -56,8 +50,9 @@ module _ (c : ℕ) where
             → (choose b (stretchOf c file 0) (fault 3) ≡ fault r) ↔ (choose b (found done 0) (fault 3) ≡ fault r)
         stands k end e false l = (fault-same 3 r, fault-same 3 r)
         stands k end e true l =
-            let s = component-stands file k end e c (ltb→lt c (length (k .components)) (subst T (sym l) tt)) noComponent in
-            let p : stretchOf c file 0 ≡ found (s .stretch) (s .stretch .end) = sym (located-accepted file c k end e l) ∙ s .is-located in
+            let m = ltb→lt c (length (k .components)) (subst T (sym l) tt) in
+            let s = component-stands file k end e c m noComponent in
+            let p : stretchOf c file 0 ≡ found (s .stretch) (s .stretch .end) = sym (located-accepted file k end e c m) ∙ s .is-located in
             (λ h. no-fault r (sym p ∙ h), λ h. no-fault r h)
 
         go : (g : Got Contents) → readFile file ≡ g → Says g

@@ -1,7 +1,6 @@
 -- 2/14 from bytes: files that write the same but for spelled-out stays, what they are answered, and the stretches, which are each file's own.
 use mathlib.Core.Path.{_≡_, refl}
-use mathlib.Core.List.{List, [], _∷_, _++_}
-use Prim.Native.Nat.{ℕ}
+use mathlib.Core.List.{[], _∷_, _++_}
 use Rattle.words.specs.Sets.{digit, insert}
 use Rattle.meaning.specs.Cases.{chainEG, pair}
 use Rattle.meaning.specs.StayCases.{emptyEG, emptyPair, two}

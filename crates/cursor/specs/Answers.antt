@@ -21,7 +21,7 @@ number Range = 3
 number Order = 4
 -- an output that is already driven, or also an own input
 number Driven = 5
--- an output word or successor set with a bit too high, or an empty set
+-- an output word or successor set with a bit too high
 number Bits = 6
 -- an unknown kind, or an operand that is not an earlier node
 number Formula = 7

@@ -30,7 +30,7 @@ heldOutline w outs = outlineOf (held w outs [])
 abbrev pub wholeStep : FileRead → List ℕ → List ℕ → Step
 wholeStep w outs nexts = stepAt (w .outcome) (w .starts .at) (held w outs nexts)
 
--- what a reading leaves: the outline of nothing where the file is refused, and in the lent array the successor sets before the fault
+-- what a reading leaves: the outline of nothing where the file is refused, and in the lent array the successor sets before the fault, filled
 pub record Leaves (file : List ℕ) (r : Reading) (nexts : List ℕ) : Type 0 where
   pub refused : (cause : Refusal) → r .outcome ≡ Refused cause → r .outline ≡ outlineOf (layout nothing)
   pub sets : nexts ≡ tableWords file .nexts

@@ -7,7 +7,7 @@ use lib.ListN.{getD, length}
 use lib.Pow.{lt-of-le-ones, pow-lt, pow-mono, pow-pos}
 use native.Mathlib.Nat.{div-lt-iff-lt-mul, mul-le-mul}
 use native.Mathlib.Omega.{arith}
-use Prim.Native.Nat.{_*_, _+_, _-_, _/_, _<_, _^_, _≤_, suc, zero, ℕ}
+use Prim.Native.Nat.{_*_, _+_, _/_, _<_, _^_, _≤_, suc, zero, ℕ}
 use Rattle.words.specs.Sets.{has}
 use Rattle.meaning.specs.File.Grammar.{Component, Limits, between, component, components, filled, filledFrom, filledSet, signal, signals, withAll}
 use Rattle.meaning.specs.File.Parser.{done, repeat}

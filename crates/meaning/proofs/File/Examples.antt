@@ -1,9 +1,11 @@
--- The pair and the chain of document 01 as they are read, with EG p and EX p: accepted files, from their bytes.
+-- The pair and the chain of document 01 as they are read, with EG p and EX p: accepted files, from their bytes. The chain whose last state has the
+-- empty set, as it is written and as it is read.
 use mathlib.Core.Path.{_≡_, refl}
 use mathlib.Core.List.{[], _∷_}
 use Rattle.words.specs.Sets.{digit, insert}
 use Rattle.meaning.specs.Cases.{chainEX, pair}
-use Rattle.meaning.specs.File.Grammar.{Contents, between, component, instrumentOf, lessThan, limits, named, node, readFile, signal}
+use Rattle.meaning.specs.StayCases.{emptyEX}
+use Rattle.meaning.specs.File.Grammar.{Contents, between, component, instrumentOf, lessThan, limits, named, node, raw, readFile, signal}
 use Rattle.meaning.specs.File.Grammar.{whole, withAll}
 use Rattle.meaning.specs.File.Number.{groups}
 use Rattle.meaning.specs.File.Parser.{found, listOf}
@@ -44,6 +46,25 @@ pair-read = refl
 pub chain-read : readFile chainEX ≡ found chainContents 19
 unfolding digit insert withAll groups listOf between lessThan signal component named node whole
 chain-read = refl
+
+-- the same chain where state 2 has the empty set: written so, and read as the chain
+abbrev pub emptyContents : Contents
+emptyContents =
+    record {
+      signals = 1;
+      components = record { states = 3; inputs = []; outputs = 0 ∷ []; outs = 1 ∷ 1 ∷ 0 ∷ []; nexts = 2 ∷ 4 ∷ 0 ∷ [] } ∷ [];
+      nodes = atom (onSignal 0) ∷ ex 0 ∷ [];
+      starts = (0 ∷ []) ∷ [];
+      sets = [];
+    }
+
+pub empty-raw : (raw emptyEX ≡ found emptyContents 19) × (raw chainEX ≡ found chainContents 19)
+unfolding digit insert withAll groups listOf between lessThan signal component named node whole
+empty-raw = (refl, refl)
+
+pub empty-read : readFile emptyEX ≡ found chainContents 19
+unfolding digit insert withAll groups listOf between lessThan signal component named node whole
+empty-read = refl
 
 abbrev pub pairI : Instrument
 pairI = instrumentOf pairContents

@@ -1,16 +1,10 @@
 -- A file says what it writes, its empty sets filled (document 02, 2/14): the same faults at the same places, and where a table's set is empty the
 -- state itself follows.
-use mathlib.Core.Path.{_≡_, _∙_, ap, refl, subst, sym}
-use mathlib.Core.Logic.{_↔_, inl, inr}
+use mathlib.Core.Path.{_≡_, _∙_, ap, refl, sym}
 use mathlib.Core.List.{List, [], _∷_, map}
-use lib.Dec.{T}
-use lib.ListN.{getD, length}
-use lib.Pow.{pow-pos}
-use native.Mathlib.Omega.{arith}
-use Prim.Native.Nat.{ℕ, zero, suc, _+_, _-_, _*_, _/_, _^_, _<_}
-use Rattle.words.specs.Sets.{has}
-use Rattle.meaning.specs.File.Grammar.{Component, Contents, Limits, asWritten, between, component, components, drivenBy, filled, filledContents, filledFrom}
-use Rattle.meaning.specs.File.Grammar.{filledSet, finished, limits, nodes, raw, readFile, signals, start, tableOf, whole, withAll}
+use Prim.Native.Nat.{ℕ, zero, suc, _-_, _*_, _^_}
+use Rattle.meaning.specs.File.Grammar.{Component, Contents, Limits, asWritten, between, component, components, drivenBy, filled, filledContents}
+use Rattle.meaning.specs.File.Grammar.{finished, limits, nodes, raw, readFile, signals, start, whole, withAll}
 use Rattle.meaning.specs.File.Parser.{Got, Parser, _>>=_, _>>_, fault, found, give, listOf, on, repeat}
 use Rattle.meaning.proofs.File.Lists.{list-more, list-none, on-assoc}
 

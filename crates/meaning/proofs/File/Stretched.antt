@@ -143,6 +143,13 @@ pub record Stands (file : List ℕ) (k : Contents) (c : ℕ) (d : Component) : T
   pub is-read : component limits filled (k .signals) (drivenBy 0 (take c (k .components))) file (stretch .start)
       ≡ found (getD (k .components) c d) (stretch .end)
 
+-- it is looked for where its number is one of the file's
+pub located-accepted : (file : List ℕ) (k : Contents) (at : ℕ) → readFile file ≡ found k at → (c : ℕ) → c < length (k .components)
+    → located file c ≡ stretchOf c file 0
+located-accepted file k at e c l =
+    ap (λ g. on g (λ k end. choose (ltb c (length (k .components))) (stretchOf c file 0) (fault 3))) e
+    ∙ ap (λ b. choose b (stretchOf c file 0) (fault 3)) (lt-ltb c (length (k .components)) l)
+
 pub component-stands : (file : List ℕ) (k : Contents) (at : ℕ) → readFile file ≡ found k at → (c : ℕ) → c < length (k .components)
     → (d : Component) → Stands file k c d
 component-stands file k at e c l d =
@@ -153,15 +160,10 @@ component-stands file k at e c l d =
     let r = component-reached file (k .signals) d (b .many) c 0 (b .after-signals) (k .components) (b .after-tables) (omega arith) (b .tables-are) in
     record {
       stretch = record { start = r .start; end = r .end };
-      is-located = accepted ∙ places b r;
+      is-located = located-accepted file k at e c l ∙ places b r;
       is-read = r .itself;
     }
   where
-    accepted : located file c ≡ stretchOf c file 0
-    accepted =
-        ap (λ g. on g (λ k end. choose (ltb c (length (k .components))) (stretchOf c file 0) (fault 3))) e
-        ∙ ap (λ b. choose b (stretchOf c file 0) (fault 3)) (lt-ltb c (length (k .components)) l)
-
     places : (b : Begun file k) (r : Reached file (k .signals) 0 (b .after-signals) c (k .components) d)
         → stretchOf c file 0 ≡ found (record { start = r .start; end = r .end }) (r .end)
     places b r = rw (b .many-is, b .signals-is, r .before, r .itself) refl

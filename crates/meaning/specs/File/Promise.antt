@@ -39,7 +39,7 @@ pub record PromisedComponent (L : Limits) (W : ℕ) (c : Component) : Type 0 whe
   -- a word for each state, with no bit past the outputs
   pub outCount : length (c .outs) ≡ c .states
   pub outs : All (λ v. v < 2 ^ length (c .outputs)) (c .outs)
-  -- a word for each state and assignment: not the empty set, and with no bit past the states
+  -- a word for each state and assignment, filled: not the empty set, and with no bit past the states
   pub nextCount : length (c .nexts) ≡ c .states * 2 ^ length (c .inputs)
   pub nexts : All (λ v. (v ≢ 0) × (v < 2 ^ c .states)) (c .nexts)
 
