@@ -9,10 +9,11 @@ use Rattle.words.specs.Sets.{has}
 use Rattle.meaning.specs.File.Parser.{Got, found, fault}
 use Rattle.meaning.specs.File.Grammar.{Component, Contents, raw}
 
--- y follows on x and the assignment a by what is written there: the set has y, or it is empty and y is the state itself
+-- the set that is written for the state x and the assignment a
 abbrev pub writtenSet : Component → ℕ → ℕ → ℕ
 writtenSet c x a = getD (c .nexts) (2 ^ length (c .inputs) * x + a) 0
 
+-- y follows by what is written there: the set has y, or it is empty and y is the state itself
 abbrev pub Follows : Component → ℕ → ℕ → ℕ → Type 0
 Follows c x a y = T (has (writtenSet c x a) y) ⊎ ((writtenSet c x a ≡ 0) × (y ≡ x))
 
