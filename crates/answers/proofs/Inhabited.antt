@@ -7,7 +7,7 @@ use lib.Dec.{lit<}
 use lib.ListN.{getD}
 use native.Mathlib.Omega.{arith}
 use Prim.Native.Nat.{_<_, suc, zero, ℕ}
-use Rattle.words.specs.Sets.{built, digit}
+use Rattle.words.specs.Sets.{built, digit, intersection}
 use Rattle.meaning.specs.Cases.{chainEX, pair}
 use Rattle.meaning.specs.Combination.{Truth}
 use Rattle.meaning.specs.Seen.{value}
@@ -41,19 +41,19 @@ unfolding markOutcome digit built
 marks-met = ap (λ g. after g (λ I. fitting 4 (markWords I))) chain-read
 
 pub classes-met : classOutcome pairFile 4 ≡ entries (0 ∷ 1 ∷ 0 ∷ 1 ∷ [])
-unfolding classOutcome digit built
+unfolding classOutcome digit built intersection
 classes-met = ap (λ g. after g (λ I. fitting 4 (classNames I))) pair-read
 
 pub merged-met : mergedOutcome pairFile 4 ≡ entries (3 ∷ 0 ∷ 1 ∷ 0 ∷ [])
-unfolding mergedOutcome digit built
+unfolding mergedOutcome digit built intersection
 merged-met = ap (λ g. after g (λ I. within (mergedSize I) 12 (fitting 4 (mergedWords I)))) pair-read
 
 pub lookup-met : lookupReply pairFile (0 ∷ 1 ∷ 0 ∷ 0 ∷ []) ≡ given false
-unfolding lookupReply digit built
+unfolding lookupReply digit built intersection
 lookup-met = ap (λ g. replyAfter g (λ I. lookupOf I (0 ∷ 1 ∷ 0 ∷ 0 ∷ []))) pair-read
 
 verdict-is : verdictOf pairI ≡ judged holds merged
-unfolding digit built
+unfolding digit built intersection
 verdict-is = refl
 
 pub verdict-met : verdictReply pairFile ≡ given (record { verdict = holds; stage = merged })
@@ -92,11 +92,11 @@ verdict-holds = pair-holds (verdict-means pairI accepted-met (record { verdict =
 
 -- ---- marks beside a partner: EX p, by the words that are handed back
 pub beside-true : Truth 2 bench (value 2 bench) (rootFormula chainI) (bench-state 0 (lit< tt))
-unfolding digit built
+unfolding digit built intersection
 beside-true =
     marks-mean chainI chain-accepted [] .beside 0 1 (lit< tt) (lit< tt) 2 bench 1 (lit< tt) refl bench-partners (bench-state 0 (lit< tt)) .0 tt
 
 pub beside-false : Truth 2 bench (value 2 bench) (rootFormula chainI) (bench-state 1 (lit< tt)) → ⊥
-unfolding digit built
+unfolding digit built intersection
 beside-false =
     marks-mean chainI chain-accepted [] .beside 0 1 (lit< tt) (lit< tt) 2 bench 1 (lit< tt) refl bench-partners (bench-state 1 (lit< tt)) .1 tt

@@ -5,7 +5,7 @@ use lib.ListN.{length, getD}
 use native.Mathlib.Nat.{mul-comm}
 use native.Mathlib.Omega.{arith}
 use Prim.Native.Nat.{ℕ, _^_, _<_}
-use Rattle.meaning.specs.Instrument.{table}
+use Rattle.meaning.specs.Instrument.{components, table}
 use Rattle.meaning.specs.File.Grammar.{Contents, instrumentOf, limits}
 use Rattle.meaning.specs.File.Promise.{PromisedComponent, componentAt}
 use Rattle.meaning.specs.Table.{Table, fromWords}
@@ -17,6 +17,7 @@ use Rattle.instrument.specs.Described.{Describes}
 use Rattle.instrument.specs.Lent.{Lent, LentAll}
 use Rattle.instrument.specs.Bounds.{Limited, boundsOf, boundsAt, part}
 use Rattle.instrument.proofs.Parts.{Lies, lies, limited, Parted, parted}
+use Rattle.instrument.proofs.Tables.{table-count}
 use Rattle.instrument.proofs.Places.{components-is, nodecount-is, states-at, inputcounts-at, nodes-at}
 use Rattle.marks.specs.Component.{Lists}
 use Rattle.marks.specs.NodeMarks.{Listing}
@@ -126,6 +127,9 @@ module _
     (d : Describes t k)
     (l : Lent t c nexts outs outputs states inputs many nodes count)
   where
+    pub lent-here : c < components (instrumentOf k)
+    lent-here = omega (arith, l .here, table-count t k d)
+
     pub lent-limited : Limited states inputs many c
     lent-limited = rw (l .states-are, l .inputs-are, l .outputs-many) (limited t k d c (l .here))
 

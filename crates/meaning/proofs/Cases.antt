@@ -10,11 +10,11 @@ use native.Mathlib.Nat.{mod-eq-of-lt, mod-lt}
 use native.Mathlib.Omega.{arith}
 use Prim.Native.Nat.{_%_, _<_, _^_, _≤_, suc, ℕ}
 use Rattle.words.proofs.Members.{has-lt}
-use Rattle.words.specs.Sets.{built, digit, has, insert}
+use Rattle.words.specs.Sets.{built, digit, has, insert, intersection}
 use Rattle.meaning.specs.Atoms.{Atom}
-use Rattle.meaning.specs.Cases.{Case, CaseHolds, Fact, Means, Reads, RootClasses, WordOf, Writes, cases, classes, combinations, fail}
-use Rattle.meaning.specs.Cases.{fullWords, mergedOf, mergedWords, pass, refused, verdict}
-use Rattle.meaning.specs.Classes.{classNumber}
+use Rattle.meaning.specs.Cases.{Case, CaseHolds, Fact, Means, Named, Reads, RootClasses, WordOf, Writes, cases, classes, combinations, fail}
+use Rattle.meaning.specs.Cases.{fullWords, mergedOf, mergedWords, pass, refused, verdict, wereClasses}
+use Rattle.meaning.specs.Classes.{ClassNames, classNumber}
 use Rattle.meaning.specs.Combination.{State, Truth, count, index}
 use Rattle.meaning.specs.File.Grammar.{Contents, between, component, instrumentOf, lessThan, named, node, readFile, signal, start}
 use Rattle.meaning.specs.File.Grammar.{whole, withAll}
@@ -28,7 +28,8 @@ use Rattle.meaning.specs.Nodes.{Beneath, formulaAt}
 use Rattle.meaning.specs.Reference.Marks.{failB, passB}
 use Rattle.meaning.specs.Reference.Merged.{mergedB}
 use Rattle.meaning.specs.Reference.Nodes.{beneathB}
-use Rattle.meaning.specs.Reference.Tests.{allBelow, lowest}
+use Rattle.meaning.specs.Reference.Relation.{rootClass}
+use Rattle.meaning.specs.Reference.Tests.{allBelow}
 use Rattle.meaning.specs.Reference.Truth.{truthB}
 use Rattle.meaning.specs.Reference.Verdict.{rootClasses, verdictB}
 use Rattle.meaning.specs.Reference.WellFormed.{acceptedB, isStartB}
@@ -37,18 +38,19 @@ use Rattle.meaning.specs.Table.{Table}
 use Rattle.meaning.specs.Tests.{All}
 use Rattle.meaning.specs.Verdict.{Answer, Right, Stage, Verdict, fails, holds, judged, marks, merged}
 use Rattle.meaning.specs.Verdict.{oversized}
-use Rattle.meaning.specs.View.{View}
+use Rattle.meaning.specs.View.{View, wholeWords}
 use Rattle.meaning.specs.Seen.{valueOf, viewOf}
 use Rattle.meaning.proofs.Basic.Booleans.{and-in, and-l, and-r, beq-eq, conj}
 use Rattle.meaning.proofs.Basic.Bounded.{all-out}
 use Rattle.meaning.proofs.Basic.Decides.{Decides}
 use Rattle.meaning.proofs.Basic.Lists.{all-map, all-sound}
+use Rattle.meaning.proofs.Classes.Described.{root-names}
 use Rattle.meaning.proofs.Demands.{full-way, merged-bits, root-class-names, root-equivalence, verdict-right}
 use Rattle.meaning.proofs.File.Nodes.{beneath-in, beneath-listed, beneath-out}
 use Rattle.meaning.proofs.File.Promise.{accepted-sound}
 use Rattle.meaning.proofs.Marks.Decided.{fail-decides, pass-decides}
-use Rattle.meaning.proofs.Marks.Laws.{Fits}
-use Rattle.meaning.proofs.Marks.Atoms.{value-local, view-fit}
+use Rattle.meaning.proofs.Marks.Laws.{Fits, Lawful}
+use Rattle.meaning.proofs.Marks.Atoms.{atoms-lawful, value-local, view-fit}
 use Rattle.meaning.proofs.Meaning.Index.{index-lt, index-same}
 
 -- a word with the bits of f below m and none from m on
@@ -142,11 +144,15 @@ module _ (I : Instrument) where
   abbrev bitB : ℕ → ℕ → Bool
   bitB x k = underB k && mergedB n S cls κ (valueOf I) (I .signals) (formula k) x
 
+  abbrev namedB : View Atom → ℕ → List ℕ → Bool
+  namedB v i names = ltb i n && (eqb (length names) (S i .states) && allBelow (S i .states) (λ x. eqb (getD names x 0) (rootClass (S i) v ρ x)))
+
   abbrev factB : Fact → Bool
   factB (refused r) = false
   factB (pass i w) = ltb i n && wordB (S i .states) (passB (S i) (κ i) ρ) w
   factB (fail i w) = ltb i n && wordB (S i .states) (failB (S i) (κ i) ρ) w
-  factB (classes i names) = ltb i n && (eqb (length names) (S i .states) && allBelow (S i .states) (λ x. eqb (getD names x 0) (cls i x)))
+  factB (classes i names) = namedB (κ i) i names
+  factB (wereClasses i names) = namedB (wholeWords (S i)) i names
   factB (fullWords ws) = wordsB (count n sizes) (length (I .nodes)) fullB ws
   factB (mergedWords ws) = wordsB (mergedCount n S cls) (length (I .nodes)) bitB ws
   factB (mergedOf start x) = isStartB I start && eqb (mergedIndex n S cls (λ i. getD start i 0)) x
@@ -169,21 +175,24 @@ module _ (I : Instrument) where
         let l = ltb→lt i n (search conj) in
         (l, word-means (S i .states) b P w (search conj) (λ x k. (d l .sound x k, d l .whole x k)))
 
-    naming : (i : ℕ) (ns : List ℕ) → T (factB (classes i ns)) → Means I (classes i ns)
-    naming i ns h = (
+    naming : (v : View Atom) (i : ℕ) (ns : List ℕ) → (i < n → Lawful (S i) v) → T (namedB v i ns) → Named I v i ns
+    naming v i ns law h = (
       l,
       eqb→eq (length ns) (S i .states) (search conj),
       record {
-        member = λ x k. subst (λ y. Rel (S i) (κ i) ρ x y) (sym (same x k)) (names i l .member x k);
-        lowest = λ x y k j r. let e = same x k in let z = names i l .lowest x y k j r in omega arith;
+        member = λ x k. subst (λ y. Rel (S i) v ρ x y) (sym (same x k)) (lowest-names .member x k);
+        lowest = λ x y k j r. let e = same x k in let z = lowest-names .lowest x y k j r in omega arith;
       },
     )
       where
         l : i < n
         l = ltb→lt i n (search conj)
 
-        same : (x : ℕ) → x < S i .states → getD ns x 0 ≡ cls i x
-        same x k = eqb→eq (getD ns x 0) (cls i x) (all-out (S i .states) (λ x. eqb (getD ns x 0) (cls i x)) (search conj) x k)
+        lowest-names : ClassNames (S i) (Rel (S i) v ρ) (rootClass (S i) v ρ)
+        lowest-names = root-names (S i) v (law l) ρ
+
+        same : (x : ℕ) → x < S i .states → getD ns x 0 ≡ rootClass (S i) v ρ x
+        same x k = eqb→eq (getD ns x 0) (rootClass (S i) v ρ x) (all-out (S i .states) (λ x. eqb (getD ns x 0) (rootClass (S i) v ρ x)) (search conj) x k)
 
     -- the listed word at an index below the count
     at : (m b : ℕ) (f : ℕ → ℕ → Bool) (ws : List ℕ) → T (wordsB m b f ws) → (x : ℕ) → x < m → T (wordB b (f x) (getD ws x 0))
@@ -246,7 +255,8 @@ module _ (I : Instrument) where
     means (refused r) h = absurd h
     means (pass i w) h = marked i w (passB (S i) (κ i) ρ) (Pass (S i) (κ i) ρ) h (λ l. pass-decides (S i) (κ i) (good .total i l) ρ)
     means (fail i w) h = marked i w (failB (S i) (κ i) ρ) (Fail (S i) (κ i) ρ) h (λ l. fail-decides (S i) (κ i) (good .total i l) ρ)
-    means (classes i ns) h = naming i ns h
+    means (classes i ns) h = naming (κ i) i ns (fits .lawful i) h
+    means (wereClasses i ns) h = naming (wholeWords (S i)) i ns (λ l. atoms-lawful (S i .out) (S i) (good .total i l)) h
     means (fullWords ws) h = full ws h
     means (mergedWords ws) h = short ws h
     means (mergedOf start x) h = (
@@ -273,6 +283,7 @@ refusedB r (refused q) = eqb q r
 refusedB r (pass i w) = false
 refusedB r (fail i w) = false
 refusedB r (classes i ns) = false
+refusedB r (wereClasses i ns) = false
 refusedB r (fullWords ws) = false
 refusedB r (mergedWords ws) = false
 refusedB r (mergedOf start x) = false
@@ -284,6 +295,7 @@ refused-means r (refused q) h = ap refused (eqb→eq q r h)
 refused-means r (pass i w) h = absurd h
 refused-means r (fail i w) h = absurd h
 refused-means r (classes i ns) h = absurd h
+refused-means r (wereClasses i ns) h = absurd h
 refused-means r (fullWords ws) h = absurd h
 refused-means r (mergedWords ws) h = absurd h
 refused-means r (mergedOf start x) h = absurd h
@@ -305,5 +317,5 @@ caseB r = readsB (readFile (r .file)) (r .fact)
 
 -- all the starred cases
 pub starred : All CaseHolds cases
-unfolding digit built insert withAll groups listOf between lessThan signal component named node whole
+unfolding digit built insert intersection withAll groups listOf between lessThan signal component named node whole
 starred = all-sound CaseHolds caseB (λ r. reads-means (readFile (r .file)) (r .fact)) cases tt

@@ -5,3 +5,4 @@ pub mod Largest
 pub mod Equivalence
 pub mod Names
 pub mod Described
+pub mod Coarser

@@ -10,7 +10,7 @@ use lib.ListN.{getD}
 use native.Mathlib.Nat.{mod-lt}
 use native.Mathlib.Omega.{arith}
 use Prim.Native.Nat.{_%_, _+_, _<_, _≤_, suc, zero, ℕ}
-use Rattle.words.specs.Sets.{built, digit}
+use Rattle.words.specs.Sets.{built, digit, intersection}
 use Rattle.meaning.specs.Atoms.{Atom, onSignal}
 use Rattle.meaning.specs.Classes.{ClassNames}
 use Rattle.meaning.specs.Combination.{State, Truth}
@@ -163,7 +163,7 @@ words-met = inl (λ i. tt)
 -- a right answer
 pub right-met : Right 2 S κ ρ (Truth 2 S (valueOf pairI) ρ) (λ s. s) (start-state (0 ∷ 0 ∷ []) start-met ∷ []) (mergedCount 2 S cls ≤ 4096)
     (judged holds merged)
-unfolding digit built
+unfolding digit built intersection
 right-met = verdict-01 pairI accepted-met (start-state (0 ∷ 0 ∷ []) start-met ∷ [])
 
 -- ---- partners: each component of the pair is one of the other's

@@ -11,6 +11,8 @@ pub mod Demands
 pub mod Cases
 pub mod WideCases
 pub mod StayCases
+pub mod LampCases
+pub mod Lamps
 pub mod Counterexamples
 pub mod Claims
 pub mod AnyWidth

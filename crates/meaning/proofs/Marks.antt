@@ -5,5 +5,6 @@ pub mod Stays
 pub mod Decided
 pub mod Laws
 pub mod Sound
+pub mod Compared
 pub mod Atoms
 pub mod Partners

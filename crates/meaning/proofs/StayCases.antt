@@ -1,5 +1,5 @@
 -- The cases of 2/14 hold: each row's test is computed, and means what the row says.
-use Rattle.words.specs.Sets.{built, digit, insert}
+use Rattle.words.specs.Sets.{built, digit, insert, intersection}
 use Rattle.meaning.specs.Cases.{CaseHolds}
 use Rattle.meaning.specs.StayCases.{stayCases}
 use Rattle.meaning.specs.File.Grammar.{between, component, lessThan, named, node, readFile, signal, whole, withAll}
@@ -10,5 +10,5 @@ use Rattle.meaning.proofs.Basic.Lists.{all-sound}
 use Rattle.meaning.proofs.Cases.{caseB, reads-means}
 
 pub stays : All CaseHolds stayCases
-unfolding digit built insert withAll groups listOf between lessThan signal component named node whole
+unfolding digit built insert intersection withAll groups listOf between lessThan signal component named node whole
 stays = all-sound CaseHolds caseB (λ r. reads-means (readFile (r .file)) (r .fact)) stayCases tt

@@ -14,7 +14,7 @@ use Rattle.meaning.specs.Instrument.{Instrument, components, table, root
 use Rattle.meaning.specs.File.Parser.{Got, found, fault}
 use Rattle.meaning.specs.File.Grammar.{Contents, instrumentOf, readFile}
 use Rattle.meaning.specs.Combination.{State, Truth, count, index}
-use Rattle.meaning.specs.View.{View}
+use Rattle.meaning.specs.View.{View, wholeWords}
 use Rattle.meaning.specs.Seen.{valueOf, viewOf}
 use Rattle.meaning.specs.Marks.{Pass, Fail}
 use Rattle.meaning.specs.Relation.{Rel}
@@ -23,12 +23,13 @@ use Rattle.meaning.specs.Merged.{mergedTables, mergedSizes, mergedCount,
 use Rattle.meaning.specs.Verdict.{Answer, judged, holds, fails, marks, merged, Right}
 
 -- What a case says of a file: it is refused, or something of its root. Sets are words, bit t for state t; full and merged words have bit k for node k; a start is its
--- states in component order.
+-- states in component order. Classes were others where whole output words were compared, before 3/14 of document 02.
 pub data Fact : Type 0 where
   refused : (number : ℕ) → Fact
   pass : (component set : ℕ) → Fact
   fail : (component set : ℕ) → Fact
   classes : (component : ℕ) → List ℕ → Fact
+  wereClasses : (component : ℕ) → List ℕ → Fact
   fullWords : List ℕ → Fact
   mergedWords : List ℕ → Fact
   mergedOf : (start : List ℕ) (index : ℕ) → Fact
@@ -56,6 +57,10 @@ module _ (I : Instrument) where
   abbrev pub RootClasses : (ℕ → ℕ → ℕ) → Type 0
   RootClasses cls = (i : ℕ) → i < n → ClassNames (S i) (Rel (S i) (κ i) (rootFormula I)) (cls i)
 
+  -- the names of component i's classes, where this is seen of it
+  abbrev pub Named : View Atom → ℕ → List ℕ → Type 0
+  Named v i names = (i < n) × (length names ≡ S i .states) × ClassNames (S i) (Rel (S i) v (rootFormula I)) (λ x. getD names x 0)
+
   -- s is the combined state that the start writes
   abbrev pub Writes : List ℕ → State n S → Type 0
   Writes start s = (i : ℕ) → i < n → s .at i ≡ getD start i 0
@@ -64,7 +69,8 @@ module _ (I : Instrument) where
   Means (refused r) = ⊥
   Means (pass i w) = (i < n) × WordOf (λ x. (x < S i .states) × Pass (S i) (κ i) (rootFormula I) x) w
   Means (fail i w) = (i < n) × WordOf (λ x. (x < S i .states) × Fail (S i) (κ i) (rootFormula I) x) w
-  Means (classes i names) = (i < n) × (length names ≡ S i .states) × ClassNames (S i) (Rel (S i) (κ i) (rootFormula I)) (λ x. getD names x 0)
+  Means (classes i names) = Named (κ i) i names
+  Means (wereClasses i names) = Named (wholeWords (S i)) i names
   Means (fullWords ws) =
       (length ws ≡ count n sizes)
       × ((s : State n S) → WordOf (λ k. (k < length (I .nodes)) × Truth n S (valueOf I) (formulaAt (I .nodes) k) s) (getD ws (index n sizes (s .at)) 0))
@@ -124,8 +130,14 @@ pair starts =
 abbrev pub lamps : List ℕ
 lamps = 1 ∷ 2 ∷ 2 ∷ 0 ∷ 2 ∷ 0 ∷ 1 ∷ 0 ∷ 2 ∷ 1 ∷ 2 ∷ 1 ∷ 1 ∷ 0 ∷ 0 ∷ []
 
+-- document 02, 3/14: two states of component 0 that stay, alike but for a lamp, signal 0, which nothing reads; component 1 drives signal 1, high
+-- in its state 0 alone; root EG of signal 1
+abbrev pub unreadLamp : List ℕ
+unreadLamp = 2 ∷ 2 ∷ 2 ∷ 0 ∷ 1 ∷ 0 ∷ 0 ∷ 1 ∷ 1 ∷ 2 ∷ 2 ∷ 0 ∷ 1 ∷ 1 ∷ 1 ∷ 0 ∷ 2 ∷ 1 ∷ 2 ∷ 1 ∷ 1 ∷ 5 ∷ 0 ∷ 1 ∷ 0 ∷ 0 ∷ []
+
 -- The starred cases. Rows beside them: the chain's listing (classes, combinations), which merged state a start has, no starts, bits of nodes
--- that are not under the root, states that differ only in a signal that the root does not name, and files for every refusal's number.
+-- that are not under the root, states that differ only in a signal that the root does not name, the unread lamp, and files for every refusal's
+-- number.
 abbrev pub cases : List Case
 cases =
     row chainEG (pass 0 0)
@@ -156,6 +168,11 @@ cases =
     ∷ row (pair (0 ∷ [])) (mergedOf (0 ∷ 1 ∷ []) 2)
     ∷ row chainSpare (mergedWords (4 ∷ []))
     ∷ row lamps (classes 0 (0 ∷ 0 ∷ []))
+    ∷ row unreadLamp (wereClasses 0 (0 ∷ 1 ∷ []))
+    ∷ row unreadLamp (classes 0 (0 ∷ 0 ∷ []))
+    ∷ row unreadLamp (classes 1 (0 ∷ 1 ∷ []))
+    ∷ row unreadLamp (combinations 2 4)
+    ∷ row unreadLamp (verdict (judged fails marks))
     ∷ row (pair (0 ∷ 0 ∷ [])) (refused 10)
     -- a signal not ascending, twice the same, not below W; one that is an own input too counts as not ascending first
     ∷ row (1 ∷ 2 ∷ 1 ∷ 0 ∷ 2 ∷ 1 ∷ 0 ∷ []) (refused 4)

@@ -30,5 +30,6 @@ pub mod Roots
 -- Cases of document 02
 pub mod WideCases
 pub mod StayCases
+pub mod LampCases
 -- The steps of one component as the engines are lent them
 pub mod StepWords

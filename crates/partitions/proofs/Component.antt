@@ -11,7 +11,7 @@ use Rattle.meaning.specs.Formula.{Formula}
 use Rattle.meaning.specs.Seen.{viewOf}
 use Rattle.meaning.specs.Roots.{relAllB, rootFormulas}
 use Rattle.meaning.specs.Instrument as meaning
-use Rattle.meaning.specs.Instrument.{Accepted, components, table}
+use Rattle.meaning.specs.Instrument.{Accepted, table}
 use Rattle.meaning.specs.File.Grammar.{Contents, instrumentOf, limits, mostStates}
 use Rattle.meaning.specs.Reference.Tests.{lowest}
 use Rattle.meaning.proofs.Basic.Bounded.{any-same}
@@ -20,7 +20,8 @@ use Rattle.instrument.specs.declared.Node as stored
 use Rattle.instrument.specs.declared.Instrument.{Instrument}
 use Rattle.instrument.specs.Described.{Describes}
 use Rattle.instrument.specs.Lent.{Lent}
-use Rattle.instrument.proofs.Tables.{table-count, table-states}
+use Rattle.instrument.proofs.Tables.{table-states}
+use Rattle.marks.proofs.Parts.{lent-here}
 use Rattle.classes.specs.Rows.{rel, rows}
 use Rattle.class_names.specs.Names.{Inhabited, classNames}
 use Rattle.classes.proofs.Padded.{padded-same}
@@ -63,11 +64,8 @@ module _
     abbrev I : meaning.Instrument
     I = instrumentOf k
 
-    here : c < components I
-    here = omega (arith, l .here, table-count t k d)
-
     small : table I c .states ≤ mostStates
-    small = few-states t k d c here
+    small = few-states t k d c (lent-here d l)
 
     states-is : states ≡ table I c .states
     states-is = l .states-are ∙ sym (table-states t k d c)
@@ -76,7 +74,7 @@ module _
     pub root-inhabited : (roots r : List ℕ) → r ≡ rootsRelation I c roots → Inhabited states r
     root-inhabited roots r e =
         rw (e, states-is)
-        (inhabited (table I c) small (rootsRelation I c roots) (at-equivalence I good roots c here) (relation-decides I good roots c here small))
+        (inhabited (table I c) small (rootsRelation I c roots) (at-equivalence I good roots c (lent-here d l)) (relation-decides I good roots c (lent-here d l) small))
       where
         good : Accepted I
         good = accepted limits k (d .promised)

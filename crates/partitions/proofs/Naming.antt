@@ -20,6 +20,7 @@ use Rattle.instrument.specs.declared.Node.{Node}
 use Rattle.instrument.specs.declared.Roots.{Roots}
 use Rattle.instrument.specs.Roots.{GoodRoots, listedRoots}
 use Rattle.subformulas.specs.Under.{underRoots}
+use Rattle.compared.specs.Compared.{ReadSignals}
 use Rattle.relations.specs.Relations.{MarkedComponent, Needed}
 use Rattle.relations.proofs.NodeRelations.{front-at}
 use Rattle.partitions.specs.Classes.{componentClasses, noNames, classesOf, MarkedInstrument}
@@ -38,36 +39,38 @@ pub needed-of : {nodes : List Node} {count : ℕ} {k : Contents} {roots : Roots}
     → needed ≡ underRoots (k .nodes) (listedRoots roots) → Needed k roots needed
 needed-of l good e = record { good = rw (← l .long) good; under = e }
 
-module _ (t : Instrument) (marks : List (List Mark)) where
-  pub marked-row : (k : Contents) → MarkedInstrument t marks k → (i : ℕ) → i < t .components → MarkedComponent t i (getD marks i []) k
-  marked-row k m i l =
+module _ (t : Instrument) (marks : List (List Mark)) (read : ℕ) where
+  pub marked-row : (k : Contents) → MarkedInstrument t marks k → ReadSignals k read → (i : ℕ) → i < t .components
+      → MarkedComponent t i (getD marks i []) read k
+  marked-row k m r i l =
       let d = m .describes in
       record {
         describes = d;
+        signals = r;
         marked =
             ap (λ ms. getD ms i []) (m .marked)
             ∙ marks-row (instrumentOf k) (omega (arith, table-count t k d, count-bounds t k d .1)) i (omega (arith, table-count t k d));
       }
 
-module _ (t : Instrument) (marks : List (List Mark)) (roots : List ℕ) where
-  pub naming-start : Naming t marks roots 0 (replicate 4 noNames)
-  naming-start = record { reached = omega arith; each = λ k m. written-start (replicate 4 noNames) 0 (t .components) _ }
+module _ (t : Instrument) (marks : List (List Mark)) (read : ℕ) (roots : List ℕ) where
+  pub naming-start : Naming t marks read roots 0 (replicate 4 noNames)
+  naming-start = record { reached = omega arith; each = λ k m r. written-start (replicate 4 noNames) 0 (t .components) _ }
 
   pub naming-more : (i : ℕ) (names : List (List ℕ)) (row : List ℕ) → i < t .components
-      → ((k : Contents) → MarkedComponent t i (getD marks i []) k → row ≡ componentClasses (instrumentOf k) roots i)
-      → Naming t marks roots i names → Naming t marks roots (i + 1) (set names i row)
+      → ((k : Contents) → MarkedComponent t i (getD marks i []) read k → row ≡ componentClasses (instrumentOf k) roots i)
+      → Naming t marks read roots i names → Naming t marks read roots (i + 1) (set names i row)
   naming-more i names row h e s =
       record {
         reached = omega arith;
         each =
-            λ k m. singles-more (componentClasses (instrumentOf k) roots) (replicate 4 noNames) (t .components) i names row h
-            (e k (marked-row t marks k m i h)) (s .each k m);
+            λ k m r. singles-more (componentClasses (instrumentOf k) roots) (replicate 4 noNames) (t .components) i names row h
+            (e k (marked-row t marks read k m r i h)) (s .each k m r);
       }
 
-  pub naming-end : (i : ℕ) (names : List (List ℕ)) → t .components ≡ i → Naming t marks roots i names → (k : Contents) → MarkedInstrument t marks k
-      → names ≡ classesOf (instrumentOf k) roots
+  pub naming-end : (i : ℕ) (names : List (List ℕ)) → t .components ≡ i → Naming t marks read roots i names → (k : Contents) → MarkedInstrument t marks k
+      → ReadSignals k read → names ≡ classesOf (instrumentOf k) roots
   unfolding classesOf
-  naming-end i names e s k m =
+  naming-end i names e s k m r =
       let g : ℕ → List ℕ = componentClasses (instrumentOf k) roots in
-      written-end (replicate 4 noNames) 0 (t .components) (λ i. g i ∷ []) i names e (s .each k m)
+      written-end (replicate 4 noNames) 0 (t .components) (λ i. g i ∷ []) i names e (s .each k m r)
       ∙ ap (λ vs. sets (replicate 4 noNames) 0 vs) (join-list g (t .components) ∙ ap (λ n. listBelow n g) (sym (table-count t k (m .describes))))

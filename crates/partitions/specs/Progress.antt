@@ -9,6 +9,7 @@ use Rattle.instrument.specs.declared.Instrument.{Instrument}
 use Rattle.instrument.specs.declared.Outline.{Outline}
 use Rattle.mark_rules.specs.declared.Mark.{Mark}
 use Rattle.marks.specs.Written.{Written}
+use Rattle.compared.specs.Compared.{ReadSignals}
 use Rattle.partitions.specs.Classes.{componentClasses, noNames, MarkedInstrument, sumBelow}
 
 -- the first so many names of a row
@@ -16,9 +17,9 @@ abbrev pub namesIn : List ℕ → ℕ → List ℕ
 namesIn row states = listBelow states (λ x. getD row x 0)
 
 -- the classes of the first i components are there
-pub record Naming (t : Instrument) (marks : List (List Mark)) (roots : List ℕ) (i : ℕ) (names : List (List ℕ)) : Type 0 where
+pub record Naming (t : Instrument) (marks : List (List Mark)) (read : ℕ) (roots : List ℕ) (i : ℕ) (names : List (List ℕ)) : Type 0 where
   pub reached : i ≤ t .components
-  pub each : (k : Contents) → MarkedInstrument t marks k
+  pub each : (k : Contents) → MarkedInstrument t marks k → ReadSignals k read
       → Written (replicate (limits .components) noNames) 0 (t .components) (λ i. componentClasses (instrumentOf k) roots i ∷ []) i names
 
 -- the names of the first i of n components are written, one component after the other, and the next place is known

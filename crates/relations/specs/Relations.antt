@@ -35,6 +35,7 @@ use Rattle.instrument.specs.declared.Roots.{Roots}
 use Rattle.instrument.specs.Roots.{GoodRoots, listedRoots}
 use Rattle.subformulas.specs.Under.{Closed, underRoots}
 use Rattle.classes.specs.Rows.{rel, rows}
+use Rattle.compared.specs.Compared.{ReadSignals}
 use Rattle.classes.specs.Related.{relatedAll, relatedBoth, relatedEx, relatedFixed}
 
 -- the relation of a formula on a table
@@ -131,9 +132,10 @@ relatedBy states relations ks = rows states (λ x y. allOf (λ k. rel (getD rela
 abbrev pub rootsRelation : meaning.Instrument → ℕ → List ℕ → List ℕ
 rootsRelation I c roots = rows (table I c .states) (relAllB (table I c) (viewOf I c) (rootFormulas I roots))
 
--- the instrument describes a file's contents, and the marks are those of its component c
-pub record MarkedComponent (t : Instrument) (c : ℕ) (marks : List Mark) (k : Contents) : Type 0 where
+-- the instrument describes a file's contents, the marks are those of its component c, and these signals are listed as inputs
+pub record MarkedComponent (t : Instrument) (c : ℕ) (marks : List Mark) (read : ℕ) (k : Contents) : Type 0 where
   pub describes : Describes t k
+  pub signals : ReadSignals k read
   pub marked : marks ≡ listMarks (table (instrumentOf k) c) (viewOf (instrumentOf k) c) (k .nodes)
 
 -- the roots are nodes of the formula, and the needed nodes are the roots and those under them

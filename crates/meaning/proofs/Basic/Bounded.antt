@@ -1,5 +1,5 @@
 -- Tests and choices of the numbers below a bound.
-use mathlib.Core.Path.{_≡_, ap₂, refl, subst, sym}
+use mathlib.Core.Path.{_∙_, _≡_, ap, ap₂, refl, subst, sym}
 use mathlib.Core.Logic.{_↔_, _⊎_, inl, inr}
 use mathlib.Core.Bool.{Bool, _&&_, _||_, cond, false, true}
 use lib.Dec.{T}
@@ -40,6 +40,10 @@ any-iff n f P d = (
 pub any-same : (n : ℕ) (f g : ℕ → Bool) → ((i : ℕ) → i < n → f i ≡ g i) → anyBelow n f ≡ anyBelow n g
 any-same zero f g h = refl
 any-same (suc n) f g h = ap₂ (λ a b. a || b) (h n (omega arith)) (any-same n f g (λ i l. h i (omega arith)))
+
+-- one count and another, and tests that agree below it
+pub any-count : (a b : ℕ) (f g : ℕ → Bool) → a ≡ b → ((j : ℕ) → j < a → f j ≡ g j) → anyBelow a f ≡ anyBelow b g
+any-count a b f g e h = any-same a f g h ∙ ap (λ k. anyBelow k g) e
 
 pub all-in : (n : ℕ) (f : ℕ → Bool) → ((i : ℕ) → i < n → T (f i)) → T (allBelow n f)
 all-in zero f h = tt

@@ -2,22 +2,22 @@
 use mathlib.Core.Path.{_∙_, _≡_, ap, refl, subst, sym}
 use mathlib.Core.Logic.{_↔_, _≢_}
 use mathlib.Core.Bool.{Bool·beq, _&&_, not}
-use lib.Dec.{T, T-not, eqb}
+use lib.Dec.{T, T-not, eqb, eqb→eq}
 use lib.ListN.{getD, length}
 use native.Mathlib.Decide.{ℕ-discrete}
 use Prim.Native.Nat.{_<_, ℕ}
-use Rattle.words.specs.Sets.{has}
+use Rattle.words.specs.Sets.{has, intersection}
 use Rattle.meaning.specs.Atoms.{Atom, onSignal}
 use Rattle.meaning.specs.Combination.{State}
 use Rattle.meaning.specs.Instrument.{Accepted, Instrument, WellFormed, components, table}
-use Rattle.meaning.specs.Seen.{value, valueOf, viewOf}
+use Rattle.meaning.specs.Seen.{readOutputs, seen, value, valueOf, viewOf}
 use Rattle.meaning.specs.Table.{Table, Total, drives, owns}
-use Rattle.meaning.specs.Tests.{anyBelow}
-use Rattle.meaning.specs.View.{View, atoms}
+use Rattle.meaning.specs.View.{View, atoms, comparing}
 use Rattle.meaning.proofs.Basic.Booleans.{and-l, and-r, beq-eq, eq-beq, imp-in, imp-out, own-eq}
 use Rattle.meaning.proofs.Basic.Equivalence.{Equivalence}
 use Rattle.meaning.proofs.Basic.Bounded.{any-in, any-out, any-same}
 use Rattle.meaning.proofs.File.Tables.{drives-owns}
+use Rattle.meaning.proofs.Marks.Compared.{and-same, compared-means}
 use Rattle.meaning.proofs.Marks.Laws.{Fits, Lawful, Local, Shows, Sound}
 use Rattle.meaning.proofs.Marks.Sets.{here}
 
@@ -80,10 +80,17 @@ module _ (n : ℕ) (S : ℕ → Table) where
   pub value-at : Local n (value n S)
   value-at (onSignal w) s u h = any-same n (λ i. drives (S i) (s i) w) (λ i. drives (S i) (u i) w) (λ i l. ap (λ x. drives (S i) x w) (h i l))
 
-  -- whole output words fix every level, whoever reads it
-  pub whole-shows : (k : ℕ) → Shows n S k (atoms (S k .out) (S k))
-  whole-shows k x y e j l z w r =
-      ap (λ o. anyBelow (length (S k .outputs)) (λ i. eqb (getD (S k .outputs) i 0) w && has o i)) e
+  -- the outputs that another component lists fix every level that others read
+  pub read-shows : (k : ℕ) → Shows n S k (comparing (readOutputs n S k) (S k))
+  read-shows k x y e j l z w r =
+      any-same (length (S k .outputs)) (λ b. eqb (getD (S k .outputs) b 0) w && has (S k .out x) b)
+      (λ b. eqb (getD (S k .outputs) b 0) w && has (S k .out y) b) same
+    where
+      same : (b : ℕ) → b < length (S k .outputs)
+          → (eqb (getD (S k .outputs) b 0) w && has (S k .out x) b) ≡ (eqb (getD (S k .outputs) b 0) w && has (S k .out y) b)
+      same b m =
+          and-same (eqb (getD (S k .outputs) b 0) w) (has (S k .out x) b) (has (S k .out y) b) (λ t.
+          compared-means n S k x y .0 e b m (j, l, z, rw (eqb→eq (getD (S k .outputs) b 0) w t) r))
 
   -- an instrument, whatever is compared, if it fixes the levels that others read
   pub atoms-fit : (W : ℕ) → WellFormed n S W → (compared : ℕ → ℕ → ℕ) → ((i : ℕ) → i < n → Shows n S i (atoms (compared i) (S i)))
@@ -111,4 +118,5 @@ module _ (I : Instrument) where
 
   pub view-fit : Accepted I → Fits (components I) (table I) (valueOf I) (viewOf I)
   view-fit accepted =
-      atoms-fit (components I) (table I) (I .signals) (accepted .well-formed) (λ i. table I i .out) (λ i l. whole-shows (components I) (table I) i)
+      atoms-fit (components I) (table I) (I .signals) (accepted .well-formed) (λ i x. intersection (seen I i) (table I i .out x))
+      (λ i l. read-shows (components I) (table I) i)
