@@ -4,6 +4,7 @@
 use crate::classes::{class_names, classes};
 use crate::combination;
 use crate::instrument::{Instrument, Table};
+use crate::lamps::compared_outputs;
 use crate::marks::{marks, Marks};
 use crate::merged::{merged_table, Merged};
 use crate::reading::Reading;
@@ -37,9 +38,11 @@ impl Bench {
             merged_tables: vec![],
             merged_words: Ok(vec![]),
         };
-        for table in &instrument.tables {
+        for (c, table) in instrument.tables.iter().enumerate() {
             let marks = marks(table, nodes, reading);
-            let relations = relations(&Component { table, nodes, marks: &marks, reading });
+            let compared = &compared_outputs(&instrument.tables, c, reading);
+            let relations =
+                relations(&Component { table, compared, nodes, marks: &marks, reading });
             let names = class_names(&relations[instrument.root()]);
             let classes = classes(&names);
             bench.merged_tables.push(merged_table(table, &classes, reading));

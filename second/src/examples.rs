@@ -1,5 +1,6 @@
 //! The bench cases of document 01, and instruments at its limits.
 
+pub mod lamps;
 pub mod stays;
 pub mod wide;
 
@@ -83,8 +84,8 @@ pub fn merged_too_large_but_marked() -> Instrument {
 }
 
 /// Four counters of 64 states; the root looks one step ahead only. The first has
-/// three classes: state 0, state 63 and the rest. The others have two, by their
-/// outputs.
+/// three classes: state 0, state 63 and the rest. The last has two, by its signal,
+/// the others one: nobody reads theirs.
 pub fn full_too_large_merged_small() -> Instrument {
     let mut instrument = counters(&[64, 64, 64, 64]);
     instrument.nodes = vec![Node::Signal(0), Node::Ex(0), Node::Signal(3), Node::Or(1, 2)];

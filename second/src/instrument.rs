@@ -3,6 +3,7 @@
 use std::borrow::Cow;
 
 use crate::reading::Reading;
+use crate::word::bit;
 
 /// The successor sets of a table as its file writes them: for each state and each
 /// assignment, the members in ascending order. A set may be empty, so no rule
@@ -115,6 +116,27 @@ impl Table {
             steps.push((0..self.states()).filter(reached).collect());
         }
         steps
+    }
+
+    /// Leaves out the j-th input; the steps where it is low are kept.
+    pub fn remove_input(&mut self, j: usize) {
+        self.inputs.remove(j);
+        for sets in self.sets.as_written_mut() {
+            let mut position = 0;
+            sets.retain(|_| {
+                let low = !bit(position, j);
+                position += 1;
+                low
+            });
+        }
+    }
+
+    /// Leaves out the j-th output.
+    pub fn remove_output(&mut self, j: usize) {
+        self.outputs.remove(j);
+        for levels in self.levels.iter_mut() {
+            levels.remove(j);
+        }
     }
 }
 

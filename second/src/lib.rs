@@ -15,6 +15,7 @@ pub mod examples;
 pub mod fields;
 pub mod generator;
 pub mod instrument;
+pub mod lamps;
 pub mod lasso;
 pub mod lent;
 pub mod limits;

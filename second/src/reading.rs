@@ -6,7 +6,7 @@
 
 #[derive(Clone, Copy, Debug, PartialEq, Eq)]
 pub enum Reading {
-    /// Document 01 as it stands.
+    /// Document 01 with the requests that have landed.
     Document,
     /// EG classes matched one step by the operand only.
     EgMatchedByOperand,
@@ -22,7 +22,7 @@ pub enum Reading {
     WithoutOperandRelation,
     /// The guard takes FAIL of marks computed on the merged tables.
     GuardFromMergedMarks,
-    /// Related states need not have equal output words.
+    /// Related states may differ in any output.
     WithoutEqualOutputs,
     /// Each state is related to itself only.
     EveryStateAlone,
@@ -54,10 +54,20 @@ pub enum Reading {
     /// An empty successor set means the state whose number is the set's place in
     /// the table, counted over states and assignments (modulo the states).
     EmptySetIsPlace,
+    /// Whole output words are compared, also outputs that no other component lists.
+    WholeOutputWords,
+    /// Of the outputs, only those are compared that a later component lists.
+    ReadByLaterOnly,
+    /// Of the outputs, only those are compared that an earlier component lists.
+    ReadByEarlierOnly,
+    /// An output is compared only if a step of another component depends on it.
+    UsedInsteadOfListed,
+    /// A signal node keeps the level of an output only if another component lists it.
+    SignalNodeOfReadOnly,
 }
 
 /// Every wrong reading.
-pub const WRONG_READINGS: [Reading; 22] = [
+pub const WRONG_READINGS: [Reading; 27] = [
     Reading::EgMatchedByOperand,
     Reading::NoGuard,
     Reading::EuWithoutStepZero,
@@ -80,4 +90,9 @@ pub const WRONG_READINGS: [Reading; 22] = [
     Reading::InputsReversed,
     Reading::EmptySetIsStateZero,
     Reading::EmptySetIsPlace,
+    Reading::WholeOutputWords,
+    Reading::ReadByLaterOnly,
+    Reading::ReadByEarlierOnly,
+    Reading::UsedInsteadOfListed,
+    Reading::SignalNodeOfReadOnly,
 ];

@@ -1,9 +1,8 @@
 //! Smaller instruments that still show a violation.
 
 use crate::fields::write;
-use crate::instrument::{Instrument, Node, Table};
+use crate::instrument::{Instrument, Node};
 use crate::reader::read;
-use crate::word::bit;
 
 /// The smallest instrument found, by taking away one thing at a time for as long
 /// as `shows` is true of what is left.
@@ -87,25 +86,13 @@ fn without_state(instrument: &Instrument, c: usize, state: usize) -> Instrument 
 /// The steps where the input is low are kept.
 fn without_input(instrument: &Instrument, c: usize, j: usize) -> Instrument {
     let mut smaller = instrument.clone();
-    let table: &mut Table = &mut smaller.tables[c];
-    table.inputs.remove(j);
-    for sets in table.sets.as_written_mut() {
-        let mut position = 0;
-        sets.retain(|_| {
-            let low = !bit(position, j);
-            position += 1;
-            low
-        });
-    }
+    smaller.tables[c].remove_input(j);
     smaller
 }
 
 fn without_output(instrument: &Instrument, c: usize, j: usize) -> Instrument {
     let mut smaller = instrument.clone();
-    smaller.tables[c].outputs.remove(j);
-    for levels in smaller.tables[c].levels.iter_mut() {
-        levels.remove(j);
-    }
+    smaller.tables[c].remove_output(j);
     smaller
 }
 

@@ -1,4 +1,5 @@
-//! When two states of a component are related for a node. Document 01, "Classes".
+//! When two states of a component are related for a node. Document 01, "Classes",
+//! and document 02, 3/14.
 
 use crate::instrument::{Node, Table};
 use crate::marks::Marks;
@@ -7,10 +8,12 @@ use crate::reading::Reading;
 /// `related[x][y]`: whether the states x and y are related.
 pub type Relation = Vec<Vec<bool>>;
 
-/// What the rule of a node looks at: a component's table, its marks, and the
-/// relations for the earlier nodes.
+/// What the rule of a node looks at: a component's table, its marks, the outputs
+/// that are compared, and the relations for the earlier nodes.
 pub struct Component<'a> {
     pub table: &'a Table,
+    /// For each output, whether the rule of EX, EG and EU compares it.
+    pub compared: &'a [bool],
     pub nodes: &'a [Node],
     pub marks: &'a [Marks],
     pub reading: Reading,
@@ -67,10 +70,7 @@ fn keeps_rule(
         && component.reading != Reading::WithoutBothMarked;
     match node {
         Node::True => true,
-        Node::Signal(signal) => {
-            let table = component.table;
-            !table.drives(signal) || table.drives_high(x, signal) == table.drives_high(y, signal)
-        }
+        Node::Signal(signal) => same_level(component, signal, x, y),
         Node::Not(_) | Node::Or(_, _) => operands_related,
         Node::Ex(a) => {
             let matched = || steps_match(component, &component.marks[a].fail, &earlier[a], x, y);
@@ -87,8 +87,21 @@ fn keeps_rule(
     }
 }
 
-/// Equal output words, and on every assignment each successor of either that is
-/// not FAIL has a related successor of the other.
+/// Whether the signal is foreign, or x and y drive it to the same level. It does not
+/// matter who reads it.
+fn same_level(component: &Component, signal: usize, x: usize, y: usize) -> bool {
+    let table = component.table;
+    let Some(j) = table.outputs.iter().position(|&output| output == signal) else {
+        return true;
+    };
+    if component.reading == Reading::SignalNodeOfReadOnly && !component.compared[j] {
+        return true;
+    }
+    table.levels[x][j] == table.levels[y][j]
+}
+
+/// Equal levels of the compared outputs, and on every assignment each successor of
+/// either that is not FAIL has a related successor of the other.
 fn steps_match(
     component: &Component,
     fail: &[bool],
@@ -97,8 +110,8 @@ fn steps_match(
     y: usize,
 ) -> bool {
     let table = component.table;
-    let equal_outputs = table.levels[x] == table.levels[y];
-    if !equal_outputs && component.reading != Reading::WithoutEqualOutputs {
+    let equal = |j: usize| table.levels[x][j] == table.levels[y][j];
+    if !(0..table.outputs.len()).all(|j| !component.compared[j] || equal(j)) {
         return false;
     }
     let exempt = |t: usize| fail[t] && component.reading != Reading::FailSuccessorsMatched;

@@ -202,5 +202,5 @@ fn small_merged_combination_of_a_large_full_one() {
     assert_eq!(queries.full(), Err(Refusal::FullTooLarge));
     let listing = queries.listing().expect("a listing");
     assert!(listing.starts_with("verdict fails merged\n"));
-    assert!(listing.ends_with("merged 24 of 16777216\n"));
+    assert!(listing.ends_with("merged 6 of 16777216\n"));
 }

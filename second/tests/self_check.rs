@@ -28,6 +28,11 @@ fn no_violation_and_everything_is_met() {
         "files with all stays Empty",
         "lookups of files with other stays",
         "stretches",
+        "outputs that another component lists",
+        "outputs neither listed nor named",
+        "relations coarser than by whole output words",
+        "lookups of files without unseen outputs",
+        "lookups of files with other levels of unseen outputs",
     ] {
         assert!(counts.of(name) > 0, "{name}");
     }

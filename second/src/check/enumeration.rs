@@ -85,8 +85,10 @@ fn check_relation(
     counts: &mut Counts,
 ) -> Result<(), Violation> {
     let marks = &checked.queries.bench.marks[c];
+    let tables = &checked.instrument.tables;
     let rule = Rule {
-        table: &checked.instrument.tables[c],
+        table: &tables[c],
+        others: [&tables[..c], &tables[c + 1..]],
         node: checked.instrument.nodes[k],
         own: &marks[k],
         marks: &marks[..k],

@@ -1,8 +1,10 @@
 //! The checks of one instrument. Each answers what is violated, if anything.
 
+mod answers;
 mod enumeration;
 mod files;
 mod full;
+mod lamps;
 mod lassos;
 mod marks;
 mod merged;
@@ -66,5 +68,6 @@ pub fn check(
     lassos::check(&checked, counts)?;
     enumeration::check(&checked, counts)?;
     stays::check(&checked, &mut prng, counts)?;
+    lamps::check(&checked, &mut prng, counts)?;
     files::check_lent_buffers(&checked.queries, counts)
 }

@@ -48,6 +48,8 @@ pub fn no_assignment_without(table: &Table, state: usize, set: &[bool]) -> bool 
 /// The rule of one node for pairs of states of one component.
 pub struct Rule<'a> {
     pub table: &'a Table,
+    /// The tables before and after this one in the file.
+    pub others: [&'a [Table]; 2],
     pub node: Node,
     /// Marks of the node itself.
     pub own: &'a Marks,
@@ -121,6 +123,19 @@ impl Rule<'_> {
                 }
             }
         }
-        self.table.levels[x] == self.table.levels[y]
+        !self.told_apart(x, y)
+    }
+
+    /// Whether another component can tell the states apart: one of its listed inputs
+    /// is driven to different levels. Document 02, 3/14.
+    fn told_apart(&self, x: usize, y: usize) -> bool {
+        for other in self.others.into_iter().flatten() {
+            for &signal in &other.inputs {
+                if self.table.drives_high(x, signal) != self.table.drives_high(y, signal) {
+                    return true;
+                }
+            }
+        }
+        false
     }
 }

@@ -1,17 +1,14 @@
 //! Both ways to write a stay get the same answers, and each file its own bytes.
 //! Document 02, 2/14.
 
+use super::answers::different;
 use super::{Checked, Violation};
-use crate::combination;
 use crate::counts::Counts;
 use crate::fields::{fields, write, Place};
 use crate::number::write_number;
 use crate::prng::Prng;
 use crate::queries::Queries;
 use crate::stays::{every_stay, Stay};
-
-/// Up to so many combined states, each is looked up; else so many are drawn.
-const LOOKED_UP: usize = 500;
 
 /// The file with every stay spelled out and the one with every stay an empty set
 /// are each compared with the file as it is, where they are other files.
@@ -25,56 +22,17 @@ pub fn check(checked: &Checked, prng: &mut Prng, counts: &mut Counts) -> Result<
         }
         let queries = Queries::under(&respelled, checked.reading)
             .map_err(|refusal| format!("stays {stay:?}: refused {}", refusal.number()))?;
-        if let Some(question) = different(&checked.queries, &queries, prng, counts) {
+        let files = "with other stays";
+        if let Some(question) = different(&checked.queries, &queries, files, prng, counts) {
             return Err(format!("stays {stay:?}: another answer to {question}"));
+        }
+        if queries.bench.merged_tables != checked.queries.bench.merged_tables {
+            return Err(format!("stays {stay:?}: other merged tables"));
         }
         check_stretches(&queries, &respelled, counts)?;
         counts.add(&format!("files with all stays {stay:?}"), 1);
     }
     Ok(())
-}
-
-/// The first question, but for existing stretches, that the two answer differently;
-/// relations and merged tables, which no question tells, are compared too.
-fn different(a: &Queries, b: &Queries, prng: &mut Prng, counts: &mut Counts) -> Option<String> {
-    let same = [
-        ("full", a.full() == b.full()),
-        ("marks", a.marks() == b.marks()),
-        ("classes", a.classes() == b.classes()),
-        ("merged", a.merged() == b.merged()),
-        ("listing", a.listing() == b.listing()),
-        ("verdict", a.verdict() == b.verdict()),
-        ("relations", a.bench.relations == b.bench.relations),
-        ("merged tables", a.bench.merged_tables == b.bench.merged_tables),
-    ];
-    if let Some((question, _)) = same.iter().find(|(_, same)| !same) {
-        return Some(question.to_string());
-    }
-    let asked = asked_states(a, prng);
-    counts.add("lookups of files with other stays", asked.len());
-    let other = asked.into_iter().find(|&states| a.lookup(states) != b.lookup(states));
-    other.map(|states| format!("lookup {states:?}"))
-}
-
-/// Combined states, and for each place one that is in no component.
-fn asked_states(queries: &Queries, prng: &mut Prng) -> Vec<[u32; 4]> {
-    let tables = &queries.bench.instrument.tables;
-    let size = combination::size(tables);
-    let mut asked = Vec::new();
-    for i in 0..size.min(LOOKED_UP) {
-        let index = if size <= LOOKED_UP { i } else { prng.below(size) };
-        let mut four = [0; 4];
-        for (c, state) in combination::states_at(tables, index).into_iter().enumerate() {
-            four[c] = state as u32;
-        }
-        asked.push(four);
-    }
-    for c in 0..4 {
-        let mut outside = asked[0];
-        outside[c] = tables.get(c).map_or(1, |table| table.states() as u32);
-        asked.push(outside);
-    }
-    asked
 }
 
 /// Each stretch has the file's own bytes, from the state count to the last

@@ -1,6 +1,7 @@
 //! Good instruments from a seed.
 
 mod formula;
+mod lamps;
 mod shapes;
 mod stays;
 mod tables;
@@ -11,8 +12,10 @@ use crate::marks::marks;
 use crate::prng::Prng;
 use crate::reading::Reading;
 use formula::formula;
+use lamps::{add_lamps, list_all};
 pub use shapes::{
-    at_limits, large_alike, large_different, medium, small, tiny, two_wide, wide, widest, Shape,
+    at_limits, large_alike, large_different, large_listed, medium, small, tiny, two_wide, wide,
+    widest, Shape,
 };
 use stays::{add_stays, respell};
 pub use tables::random_table;
@@ -27,19 +30,37 @@ pub fn instrument(prng: &mut Prng) -> Instrument {
         950..=970 => wide(prng),
         971 => two_wide(prng),
         972..=981 => large_alike(prng),
-        982..=996 => large_different(prng),
+        982..=989 => large_different(prng),
+        990..=996 => large_listed(prng),
         _ => at_limits(prng),
     };
-    instrument_of(prng, &shape)
+    with_lamps(prng, &shape, 35)
 }
 
 /// An instrument of the shape, some with further stays, and stays written both
 /// ways. Both are drawn aside, so that all other draws are as without them.
 pub fn instrument_of(prng: &mut Prng, shape: &Shape) -> Instrument {
+    with_lamps(prng, shape, 0)
+}
+
+/// The same with further lamps.
+pub fn lamps_of(prng: &mut Prng, shape: &Shape) -> Instrument {
+    with_lamps(prng, shape, 100)
+}
+
+/// The same, where about this many of a hundred instruments get further lamps. They
+/// are drawn aside too.
+fn with_lamps(prng: &mut Prng, shape: &Shape, percentage: usize) -> Instrument {
     let mut instrument = without_empty_sets(prng, shape);
     let mut aside = prng.aside();
     add_stays(&mut aside, &mut instrument);
     respell(&mut aside, &mut instrument);
+    if aside.percent(percentage) {
+        add_lamps(&mut aside, &mut instrument);
+    }
+    if shape.all_listed {
+        list_all(&mut aside, &mut instrument);
+    }
     instrument
 }
 

@@ -17,6 +17,8 @@ pub struct Shape {
     pub different_states: usize,
     /// Of a hundred successor sets, about this many hold half of all states.
     pub dense_sets: usize,
+    /// Every output is listed by another component, where one has room for it.
+    pub all_listed: bool,
 }
 
 /// At most six combined states, so that lassos can be listed.
@@ -36,6 +38,7 @@ pub fn tiny(prng: &mut Prng) -> Shape {
         starts: start_count(prng),
         different_states: prng.between(1, 6),
         dense_sets: 0,
+        all_listed: false,
     }
 }
 
@@ -49,6 +52,7 @@ pub fn small(prng: &mut Prng) -> Shape {
         starts: start_count(prng),
         different_states: prng.between(2, 5),
         dense_sets: 0,
+        all_listed: false,
     }
 }
 
@@ -62,6 +66,7 @@ pub fn medium(prng: &mut Prng) -> Shape {
         starts: start_count(prng),
         different_states: prng.between(2, 6),
         dense_sets: 0,
+        all_listed: false,
     }
 }
 
@@ -81,6 +86,7 @@ pub fn large_alike(prng: &mut Prng) -> Shape {
         starts: start_count(prng),
         different_states: prng.between(2, 4),
         dense_sets: 0,
+        all_listed: false,
     }
 }
 
@@ -94,7 +100,13 @@ pub fn large_different(prng: &mut Prng) -> Shape {
         starts: start_count(prng),
         different_states: limits::STATES,
         dense_sets: 0,
+        all_listed: false,
     }
+}
+
+/// The same; no output is a lamp, so that the merged combination is often large.
+pub fn large_listed(prng: &mut Prng) -> Shape {
+    Shape { all_listed: true, ..large_different(prng) }
 }
 
 /// A component of more than 32 states, alone or beside up to three small ones.
@@ -121,6 +133,7 @@ fn beside_small_ones(prng: &mut Prng, states: usize) -> Shape {
         starts: start_count(prng),
         different_states: prng.between(4, limits::STATES),
         dense_sets: *prng.one_of(&[0, 0, 5, 40]),
+        all_listed: false,
     }
 }
 
@@ -134,6 +147,7 @@ pub fn two_wide(prng: &mut Prng) -> Shape {
         starts: start_count(prng),
         different_states: prng.between(3, limits::STATES),
         dense_sets: 0,
+        all_listed: false,
     }
 }
 
@@ -159,6 +173,7 @@ pub fn at_limits(prng: &mut Prng) -> Shape {
         starts: limits::STARTS,
         different_states: prng.between(2, 8),
         dense_sets: 0,
+        all_listed: false,
     }
 }
 

@@ -4,6 +4,7 @@
 mod bench_cases;
 mod case;
 mod folder;
+mod lamp_cases;
 mod output;
 mod random_cases;
 mod reading_cases;
@@ -19,6 +20,7 @@ pub use output::{output, output_under};
 pub fn cases() -> Vec<Case> {
     let mut cases = bench_cases::cases();
     cases.extend(stay_cases::cases());
+    cases.extend(lamp_cases::cases());
     cases.extend(refusal_cases::cases());
     cases.extend(reading_cases::cases());
     cases.extend(random_cases::cases());

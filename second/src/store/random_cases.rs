@@ -72,7 +72,7 @@ fn good_case(
 }
 
 /// Draws how large an instrument is to be.
-type Draw = fn(&mut Prng) -> Shape;
+pub type Draw = fn(&mut Prng) -> Shape;
 
 /// The shapes of the good files, one after another.
 fn shapes() -> Vec<Draw> {

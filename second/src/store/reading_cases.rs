@@ -4,7 +4,7 @@
 use super::random_cases::asked_states;
 use super::{output, output_under, Case};
 use crate::fields::write;
-use crate::generator::{large_different, medium, respelled_of, small, tiny};
+use crate::generator::{lamps_of, large_different, medium, respelled_of, small, tiny, Shape};
 use crate::instrument::Instrument;
 use crate::prng::Prng;
 use crate::queries::Queries;
@@ -17,6 +17,8 @@ const FIRST_SEED: u64 = 2_000_000_000;
 const SEEDS: u64 = 1_000_000;
 /// The first seed of the cases above 4,096 merged states, which are drawn larger.
 const FIRST_LARGE_SEED: u64 = 2_020_000_000;
+/// From this wrong reading on, the cases have further lamps.
+const FIRST_OF_LAMPS: usize = 22;
 /// Cases for each wrong reading.
 const FOR_EACH_READING: usize = 8;
 /// Cases above 4,096 merged states.
@@ -27,7 +29,8 @@ pub fn cases() -> Vec<Case> {
     for (r, reading) in WRONG_READINGS.into_iter().enumerate() {
         let name = format!("reading_{r:02}");
         let first = FIRST_SEED + r as u64 * SEEDS;
-        cases.extend(found(&name, first, FOR_EACH_READING, &drawn_small, &|case| {
+        let drawn = if r < FIRST_OF_LAMPS { drawn_small } else { drawn_with_lamps };
+        cases.extend(found(&name, first, FOR_EACH_READING, &drawn, &|case| {
             output(case) != output_under(case, reading)
         }));
     }
@@ -63,12 +66,21 @@ fn found(
 }
 
 fn drawn_small(prng: &mut Prng) -> Instrument {
-    let shape = match prng.below(4) {
+    let shape = small_shape(prng);
+    respelled_of(prng, &shape)
+}
+
+fn drawn_with_lamps(prng: &mut Prng) -> Instrument {
+    let shape = small_shape(prng);
+    lamps_of(prng, &shape)
+}
+
+fn small_shape(prng: &mut Prng) -> Shape {
+    match prng.below(4) {
         0 => tiny(prng),
         3 => medium(prng),
         _ => small(prng),
-    };
-    respelled_of(prng, &shape)
+    }
 }
 
 fn drawn_large(prng: &mut Prng) -> Instrument {
