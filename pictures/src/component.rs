@@ -3,6 +3,7 @@
 use std::borrow::Cow;
 
 use second::instrument::{Instrument, Node, Table};
+use second::lamps::read_outputs;
 use second::reading::Reading;
 
 use crate::answers::Answers;
@@ -25,6 +26,8 @@ pub struct Class {
 pub struct Component {
     pub number: usize,
     pub table: Table,
+    /// For each output, whether another component lists it as an input.
+    pub read: Vec<bool>,
     pub nodes: Vec<Node>,
     /// Which nodes are the root or are reached from it through operands.
     pub under_root: Vec<bool>,
@@ -66,6 +69,7 @@ impl Component {
         let started = |s: usize| instrument.starts.iter().any(|start| start[c] == s);
         Ok(Component {
             number: c,
+            read: read_outputs(&instrument.tables, c),
             nodes: instrument.nodes.clone(),
             under_root: instrument.under_root(),
             class_of,
@@ -97,6 +101,13 @@ impl Component {
     /// The states, members of one class next to each other.
     pub fn states_by_class(&self) -> Vec<usize> {
         self.classes.iter().flat_map(|class| class.members.clone()).collect()
+    }
+
+    /// Whether the classes depend on the j-th output: another component lists it, or a
+    /// node under the root names it.
+    pub fn is_seen(&self, j: usize) -> bool {
+        let named = Node::Signal(self.table.outputs[j]);
+        self.read[j] || self.nodes_under_root().iter().any(|&k| self.nodes[k] == named)
     }
 
     /// The outputs that are high in the state, by name.

@@ -19,7 +19,8 @@ const LABELS: &str = "On a line: the levels of the inputs on which the step is t
     as on 01 10 are levels of the inputs in their listed order; 8 of 16 is the number of \
     assignments where a text would be long. Where there are many lines they have no labels, and \
     where there are too many none are drawn: the table shows every step.";
-const TABLE: &str = "A row for each state: outputs (a disc is high), the mark at each node under \
+const TABLE: &str = "A row for each state: outputs (a disc is high, a light one where no other \
+    component reads the output and no node under the root names it), the mark at each node under \
     the root (P, F), and the states it goes to. A full cell is a step on every assignment, \
     squares in a cell are single assignments.";
 const MERGED: &str = "A box for each class: the outputs of its lowest state, and a line to each \

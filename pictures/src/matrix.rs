@@ -12,6 +12,8 @@ use crate::svg::{text_width, Anchor, Svg};
 /// The room between the parts of the matrix.
 const GAP: f64 = 22.0;
 const INK: &str = "#26364d";
+/// For outputs on which no class depends.
+const LIGHT: &str = "#b9c2cf";
 
 /// Where the parts of a matrix are.
 struct Frame<'a> {
@@ -193,7 +195,8 @@ impl<'a> Frame<'a> {
             let cell = self.cell_at(self.outputs, j, row);
             let at = Point::new((cell.left + cell.right) / 2.0, (cell.top + cell.bottom) / 2.0);
             if high {
-                svg.circle(at, self.cell * 0.28, &format!(r#"fill="{INK}""#));
+                let ink = if self.component.is_seen(j) { INK } else { LIGHT };
+                svg.circle(at, self.cell * 0.28, &format!(r#"fill="{ink}""#));
             } else {
                 svg.circle(at, 2.0, r##"fill="none" stroke="#999999" stroke-width="0.8""##);
             }

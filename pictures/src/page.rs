@@ -108,7 +108,8 @@ fn pairs(component: &Component) -> String {
         return String::new();
     }
     let mut html = String::from("<p>What keeps classes apart: a level or a mark that differs, ");
-    html += "else outputs, else steps that have no match.</p>\n<table>\n<tr><th></th>";
+    html += "else an output that another component reads, else steps that have no match.</p>\n";
+    html += "<table>\n<tr><th></th>";
     for other in &classes[..classes.len() - 1] {
         html += &format!("<th>{}</th>", other.name);
     }

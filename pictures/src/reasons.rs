@@ -1,4 +1,5 @@
-//! Why states are in one class, and why classes are apart: document 01, "Classes".
+//! Why states are in one class, and why classes are apart: document 01, "Classes",
+//! and document 02, 3/14.
 
 use second::instrument::Node;
 
@@ -28,13 +29,24 @@ pub fn together(component: &Component, class: &Class) -> Vec<String> {
         reasons.push(match mark {
             Mark::Pass => format!("PASS of {nodes}"),
             Mark::Fail => format!("FAIL of {nodes}"),
-            Mark::Neither => format!("equal outputs and matching steps for {nodes}"),
+            Mark::Neither => format!("{}matching steps for {nodes}", equal_outputs(component)),
         });
     }
     if reasons.is_empty() {
         reasons.push("the formula asks for nothing here".to_string());
     }
     reasons
+}
+
+/// The outputs that have to be equal: those that another component reads.
+fn equal_outputs(component: &Component) -> String {
+    let outputs = component.table.outputs.iter().zip(&component.read);
+    let read: Vec<String> =
+        outputs.filter(|(_, &read)| read).map(|(signal, _)| format!("s{signal}")).collect();
+    if read.is_empty() {
+        return String::new();
+    }
+    format!("equal {}, ", read.join(" "))
 }
 
 /// `node 3`, or `nodes 3 4`.
@@ -55,8 +67,10 @@ pub fn apart(component: &Component, one: &Class, other: &Class) -> String {
             _ => format!("node {k}"),
         };
     }
-    if component.table.levels[a] != component.table.levels[b] {
-        return "outputs".to_string();
+    let levels = &component.table.levels;
+    let differs = |j: &usize| component.read[*j] && levels[a][*j] != levels[b][*j];
+    match (0..component.read.len()).find(differs) {
+        Some(j) => format!("output s{}", component.table.outputs[j]),
+        None => "steps".to_string(),
     }
-    "steps".to_string()
 }

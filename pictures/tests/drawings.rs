@@ -27,7 +27,8 @@ fn examples() -> Vec<Vec<u8>> {
     files
 }
 
-/// A component of so many states with every successor set of the given size.
+/// A component of so many states with every successor set of the given size, and two
+/// of one state that read its outputs.
 fn full_size(
     states: usize,
     inputs: usize,
@@ -55,7 +56,14 @@ fn full_size(
         sets: WrittenSets::new(sets),
     };
     let nodes = vec![Node::Signal(0), Node::Ex(0), Node::Eg(1)];
-    Instrument { signals: 12, tables: vec![table], nodes, starts: vec![vec![3]] }
+    let reader = |inputs: Vec<usize>| Table {
+        sets: WrittenSets::new(vec![vec![vec![0]; 1 << inputs.len()]]),
+        inputs,
+        outputs: vec![],
+        levels: vec![vec![]],
+    };
+    let tables = vec![table, reader((0..4).collect()), reader((4..8).collect())];
+    Instrument { signals: 12, tables, nodes, starts: vec![vec![3, 0, 0]] }
 }
 
 /// Boxes, labels and names in the drawings of steps do not overlap.

@@ -1,17 +1,23 @@
 //! The text notation.
 
-use second::examples::{stays, CHAIN, PAIR};
+use second::examples::{lamps, stays, CHAIN, PAIR};
 use second::fields::write;
 use second::notation::{from_text, to_text};
 
 const CHAIN_TEXT: &str = include_str!("../examples/chain.txt");
 const PAIR_TEXT: &str = include_str!("../examples/pair.txt");
 const STAYS_TEXT: &str = include_str!("../examples/stays.txt");
+const LAMPS_TEXT: &str = include_str!("../examples/lamps.txt");
 
 #[test]
 fn examples_are_the_files_of_document_01() {
     assert_eq!(write(&from_text(CHAIN_TEXT).expect("the chain")), CHAIN);
     assert_eq!(write(&from_text(PAIR_TEXT).expect("the pair")), PAIR);
+}
+
+#[test]
+fn the_unread_lamp() {
+    assert_eq!(write(&from_text(LAMPS_TEXT).expect("the example")), lamps::UNREAD);
 }
 
 #[test]
@@ -25,7 +31,7 @@ fn an_empty_set_and_a_spelled_out_stay_are_two_texts() {
 
 #[test]
 fn text_is_stable() {
-    for text in [CHAIN_TEXT, PAIR_TEXT, STAYS_TEXT] {
+    for text in [CHAIN_TEXT, PAIR_TEXT, STAYS_TEXT, LAMPS_TEXT] {
         let instrument = from_text(text).expect("an example");
         let written = to_text(&instrument);
         let again = from_text(&written).expect("the written text");
