@@ -3,6 +3,7 @@
 mod chains;
 mod formulas;
 mod four;
+mod lamps;
 mod merging;
 mod order;
 mod random;
@@ -47,6 +48,7 @@ pub fn full() -> Vec<Input> {
 pub fn short() -> Vec<Input> {
     let mut inputs = four::inputs();
     inputs.extend(steady::inputs());
+    inputs.extend(lamps::inputs());
     inputs.extend(merging::inputs());
     inputs.extend(order::short_inputs());
     inputs

@@ -49,7 +49,7 @@ fn avoided() -> Vec<Node> {
 }
 
 /// No marks, and one class more in each round: any end, own or foreign, reached through another's.
-fn told_apart(count: usize) -> Vec<Node> {
+pub fn told_apart(count: usize) -> Vec<Node> {
     let mut nodes: Vec<Node> = (0..4).map(Node::Signal).collect();
     nodes.extend([Node::Or(0, 1), Node::Or(2, 3), Node::Or(4, 5)]);
     nodes.extend((0..count - nodes.len()).map(|k| Node::Eu(k % 4, 6)));

@@ -1,6 +1,6 @@
 //! Crate classes: the relation of one node, as the row of states that each state is related to.
 
-use super::instrument::Table;
+use super::instrument::{ComparedWords, Table};
 use super::marks::Mark;
 use super::words::{below, members, StateSet, MOST_STATES};
 
@@ -40,6 +40,7 @@ fn converse(table: &Table, rows: &Relation) -> Relation {
 /// The rule of EX, EG and EU, where the live states are those that are not FAIL.
 struct Rule<'a> {
     table: &'a Table,
+    words: &'a ComparedWords,
     mark: Mark,
     live: StateSet,
 }
@@ -71,16 +72,22 @@ impl Rule<'_> {
         with(self.mark.pass) | with(self.mark.fail)
     }
 
-    /// Of the states in `among` those with the outputs of x.
+    /// Of the states in `among` those with the compared outputs of x.
     fn same_outputs(&self, x: usize, among: StateSet) -> StateSet {
-        let words = &self.table.words;
+        let words = self.words;
         members(among).filter(|&y| words[x] == words[y]).fold(0, |set, y| set | 1 << y)
     }
 }
 
 /// The relation of EX: what the operand relates and the rule by it keeps.
-pub fn ex(table: &Table, operand: &Relation, mark: Mark, operand_fail: StateSet) -> Relation {
-    let rule = Rule { table, mark, live: table.all() & !operand_fail };
+pub fn ex(
+    table: &Table,
+    words: &ComparedWords,
+    operand: &Relation,
+    mark: Mark,
+    operand_fail: StateSet,
+) -> Relation {
+    let rule = Rule { table, words, mark, live: table.all() & !operand_fail };
     let opposite = converse(table, operand);
     let columns = std::array::from_fn(|x| match x < table.states {
         true => rule.matched(&opposite, x, opposite[x]),
@@ -152,8 +159,8 @@ fn settle(rule: &Rule, before: &Relation, own: &mut Half, other: &mut Half) {
 
 /// The relation of EG and EU: the largest inside the operands' that keeps the rule by itself. It
 /// and its converse are cut down together, each for one half of the rule, and settled in turn.
-pub fn fixed(table: &Table, operands: &Relation, mark: Mark) -> Relation {
-    let rule = Rule { table, mark, live: table.all() & !mark.fail };
+pub fn fixed(table: &Table, words: &ComparedWords, operands: &Relation, mark: Mark) -> Relation {
+    let rule = Rule { table, words, mark, live: table.all() & !mark.fail };
     let before = predecessors(table);
     let mut rows = *operands;
     for (x, row) in rows[..table.states].iter_mut().enumerate() {

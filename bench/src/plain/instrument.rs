@@ -1,6 +1,6 @@
 //! Crate instrument: what a good file holds.
 
-use super::words::{below, StateSet};
+use super::words::{below, StateSet, MOST_STATES};
 
 /// A component's table: inputs and outputs are signal numbers, sets are words.
 pub struct Table {
@@ -29,6 +29,22 @@ impl Table {
         let j = self.outputs.iter().position(|&output| output == signal)?;
         let high = self.words.iter().enumerate();
         Some(high.fold(0, |set, (x, word)| set | StateSet::from(word >> j & 1) << x))
+    }
+}
+
+/// For each state, the word of its outputs that are compared.
+pub type ComparedWords = [u32; MOST_STATES];
+
+impl Table {
+    /// The output words cut down to the outputs that are in the set of signals.
+    pub fn compared_words(&self, read: u32) -> ComparedWords {
+        let outputs = self.outputs.iter().enumerate();
+        let mask = outputs.fold(0, |mask, (j, &signal)| mask | (read >> signal & 1) << j);
+        let mut compared = [0; MOST_STATES];
+        for (own, word) in compared.iter_mut().zip(&self.words) {
+            *own = word & mask;
+        }
+        compared
     }
 }
 
@@ -77,6 +93,13 @@ impl Instrument {
             }
         }
         high
+    }
+
+    /// The signals that components other than c list as inputs.
+    pub fn read_by_others(&self, c: usize) -> u32 {
+        let others = self.tables.iter().enumerate().filter(|&(d, _)| d != c);
+        let inputs = others.flat_map(|(_, table)| &table.inputs);
+        inputs.fold(0, |set, signal| set | 1 << signal)
     }
 
     /// The root and the nodes under it: operands are earlier nodes, so one way down finds all.

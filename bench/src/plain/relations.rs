@@ -2,12 +2,19 @@
 //! classes at the root.
 
 use super::classes::{both, everything, ex, fixed, names, same_level, Relation};
-use super::instrument::{Instrument, Node, Table};
+use super::instrument::{ComparedWords, Instrument, Node, Table};
 use super::marks::Mark;
 use super::words::MOST_STATES;
 
 /// One node, from the marks and the relations of earlier ones.
-fn relation(table: &Table, node: Node, mark: Mark, marks: &[Mark], rows: &[Relation]) -> Relation {
+fn relation(
+    table: &Table,
+    words: &ComparedWords,
+    node: Node,
+    mark: Mark,
+    marks: &[Mark],
+    rows: &[Relation],
+) -> Relation {
     match node {
         Node::True => everything(table),
         Node::Signal(signal) => match table.driving(signal) {
@@ -16,18 +23,20 @@ fn relation(table: &Table, node: Node, mark: Mark, marks: &[Mark], rows: &[Relat
         },
         Node::Not(x) => rows[x],
         Node::Or(x, y) => both(&rows[x], &rows[y]),
-        Node::Ex(x) => ex(table, &rows[x], mark, marks[x].fail),
-        Node::Eg(x) => fixed(table, &rows[x], mark),
-        Node::Eu(x, y) => fixed(table, &both(&rows[x], &rows[y]), mark),
+        Node::Ex(x) => ex(table, words, &rows[x], mark, marks[x].fail),
+        Node::Eg(x) => fixed(table, words, &rows[x], mark),
+        Node::Eu(x, y) => fixed(table, words, &both(&rows[x], &rows[y]), mark),
     }
 }
 
-/// The class names of a component: those of the relation at the root, the last node.
-fn component_classes(table: &Table, nodes: &[Node], needed: u32, marks: &[Mark]) -> Vec<u8> {
+/// The class names of component c: those of the relation at the root, the last node.
+fn component_classes(instrument: &Instrument, c: usize, needed: u32, marks: &[Mark]) -> Vec<u8> {
+    let (table, nodes) = (&instrument.tables[c], &instrument.nodes);
+    let words = table.compared_words(instrument.read_by_others(c));
     let mut rows: Vec<Relation> = Vec::with_capacity(nodes.len());
     for (k, &node) in nodes.iter().enumerate() {
         let row = match needed >> k & 1 {
-            1 => relation(table, node, marks[k], marks, &rows),
+            1 => relation(table, &words, node, marks[k], marks, &rows),
             _ => [0; MOST_STATES],
         };
         rows.push(row);
@@ -38,8 +47,6 @@ fn component_classes(table: &Table, nodes: &[Node], needed: u32, marks: &[Mark])
 /// The class names of all components, from their marks.
 pub fn all_classes(instrument: &Instrument, marks: &[Vec<Mark>]) -> Vec<Vec<u8>> {
     let needed = instrument.under_root();
-    let classes = |(table, marks): (&Table, &Vec<Mark>)| {
-        component_classes(table, &instrument.nodes, needed, marks)
-    };
-    instrument.tables.iter().zip(marks).map(classes).collect()
+    let marks = marks.iter().enumerate();
+    marks.map(|(c, marks)| component_classes(instrument, c, needed, marks)).collect()
 }
