@@ -130,8 +130,9 @@ impl Rule<'_> {
     /// is driven to different levels. Document 02, 3/14.
     fn told_apart(&self, x: usize, y: usize) -> bool {
         for other in self.others.into_iter().flatten() {
-            for &signal in &other.inputs {
-                if self.table.drives_high(x, signal) != self.table.drives_high(y, signal) {
+            for input in &other.inputs {
+                let own = self.table.outputs.iter().position(|output| output == input);
+                if own.is_some_and(|j| self.table.levels[x][j] != self.table.levels[y][j]) {
                     return true;
                 }
             }
