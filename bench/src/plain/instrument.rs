@@ -95,10 +95,10 @@ impl Instrument {
         high
     }
 
-    /// The signals that components other than c list as inputs.
-    pub fn read_by_others(&self, c: usize) -> u32 {
-        let others = self.tables.iter().enumerate().filter(|&(d, _)| d != c);
-        let inputs = others.flat_map(|(_, table)| &table.inputs);
+    /// The signals that some component lists as an input. None lists an output of its own, so for
+    /// an output this is another component.
+    pub fn read_signals(&self) -> u32 {
+        let inputs = self.tables.iter().flat_map(|table| &table.inputs);
         inputs.fold(0, |set, signal| set | 1 << signal)
     }
 

@@ -29,10 +29,15 @@ fn relation(
     }
 }
 
-/// The class names of component c: those of the relation at the root, the last node.
-fn component_classes(instrument: &Instrument, c: usize, needed: u32, marks: &[Mark]) -> Vec<u8> {
-    let (table, nodes) = (&instrument.tables[c], &instrument.nodes);
-    let words = table.compared_words(instrument.read_by_others(c));
+/// The class names of a component: those of the relation at the root, the last node.
+fn component_classes(
+    table: &Table,
+    nodes: &[Node],
+    needed: u32,
+    read: u32,
+    marks: &[Mark],
+) -> Vec<u8> {
+    let words = table.compared_words(read);
     let mut rows: Vec<Relation> = Vec::with_capacity(nodes.len());
     for (k, &node) in nodes.iter().enumerate() {
         let row = match needed >> k & 1 {
@@ -47,6 +52,9 @@ fn component_classes(instrument: &Instrument, c: usize, needed: u32, marks: &[Ma
 /// The class names of all components, from their marks.
 pub fn all_classes(instrument: &Instrument, marks: &[Vec<Mark>]) -> Vec<Vec<u8>> {
     let needed = instrument.under_root();
-    let marks = marks.iter().enumerate();
-    marks.map(|(c, marks)| component_classes(instrument, c, needed, marks)).collect()
+    let read = instrument.read_signals();
+    let classes = |(table, marks): (&Table, &Vec<Mark>)| {
+        component_classes(table, &instrument.nodes, needed, read, marks)
+    };
+    instrument.tables.iter().zip(marks).map(classes).collect()
 }
