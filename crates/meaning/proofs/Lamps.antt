@@ -6,25 +6,26 @@ use mathlib.Core.List.{List, [], _∷_}
 use lib.Dec.{T, eqb, eqb-refl, eqb→eq}
 use native.Mathlib.Nat.{mul-le-mul}
 use native.Mathlib.Omega.{arith}
-use Prim.Native.Nat.{_*_, _+_, _<_, _≤_, suc, zero, ℕ}
+use Prim.Native.Nat.{_+_, _<_, _≤_, suc, zero, ℕ}
 use Rattle.words.specs.Sets.{intersection}
-use Rattle.meaning.specs.Atoms.{Atom}
+use Rattle.meaning.specs.Atoms.{Atom, onSignal}
 use Rattle.meaning.specs.Classes.{ClassNames, classCount, classesBelow}
 use Rattle.meaning.specs.Combination.{count}
-use Rattle.meaning.specs.Formula.{Formula}
+use Rattle.meaning.specs.Formula.{Formula, atom}
 use Rattle.meaning.specs.Instrument.{Accepted, Instrument, components, table}
 use Rattle.meaning.specs.LampCases.{classesBefore, sizeBefore}
 use Rattle.meaning.specs.Marks.{Fail, Pass}
-use Rattle.meaning.specs.Merged.{mergedSizes}
 use Rattle.meaning.specs.Relation.{InsidePairs, Rel}
 use Rattle.meaning.specs.Roots.{RelAll, classesAtRoots, rootFormulas, rootsSize}
 use Rattle.meaning.specs.Seen.{seen, viewOf}
-use Rattle.meaning.specs.Table.{Table}
+use Rattle.meaning.specs.Table.{Table, drives}
 use Rattle.meaning.specs.View.{wholeWords}
 use Rattle.meaning.proofs.Basic.Equivalence.{Equivalence}
 use Rattle.meaning.proofs.Classes.Coarser.{coarser}
+use Rattle.meaning.proofs.Classes.Equivalence.{rel-under}
 use Rattle.meaning.proofs.Classes.Names.{name-related, related-name}
-use Rattle.meaning.proofs.Marks.Atoms.{atoms-lawful}
+use Rattle.meaning.proofs.File.Formulas.{Under}
+use Rattle.meaning.proofs.Marks.Atoms.{atoms-lawful, level-eq}
 use Rattle.meaning.proofs.Marks.Compared.{marks-same}
 use Rattle.meaning.proofs.Marks.Laws.{Lawful}
 use Rattle.meaning.proofs.Roots.{at-equivalence, at-names, roots-equivalence, roots-names}
@@ -64,6 +65,11 @@ module _ (I : Instrument) where
 
   pub related-still : (i : ℕ) (φ : Formula Atom) → InsidePairs (table I i) (Rel (table I i) (wholeWords (table I i)) φ) (Rel (table I i) (viewOf I i) φ)
   related-still i φ = coarser (table I i) (wholeWords (table I i)) (viewOf I i .compared) (less i) φ
+
+  -- a signal that a formula names: related states drive it to the same level, whoever reads it
+  pub named-kept : (i w : ℕ) (φ : Formula Atom) → Under (atom (onSignal w)) φ → (x y : ℕ) → x < table I i .states → y < table I i .states
+      → Rel (table I i) (viewOf I i) φ x y → drives (table I i) x w ≡ drives (table I i) y w
+  named-kept i w φ u x y l k r = level-eq (viewOf I i .compared) (table I i) w x y (rel-under (table I i) (viewOf I i) u l k r)
 
   module _ (accepted : Accepted I) (roots : List ℕ) where
     abbrev before : ℕ → ℕ → ℕ → Type 0

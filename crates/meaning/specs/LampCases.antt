@@ -1,11 +1,10 @@
 -- 3/14 (document 02): the classes as they were where whole output words were compared, and cases of lamps that nothing reads.
 use mathlib.Core.List.{List, [], _∷_, _++_}
 use Prim.Native.Nat.{ℕ}
-use Rattle.meaning.specs.Cases.{Case, Fact, classes, combinations, fullWords, mergedWords, unreadLamp, verdict, wereClasses}
+use Rattle.meaning.specs.Cases.{Case, Fact, classes, combinations, fullWords, mergedWords, wereClasses}
 use Rattle.meaning.specs.Instrument.{Instrument, components, table}
 use Rattle.meaning.specs.Merged.{mergedCount}
 use Rattle.meaning.specs.Roots.{rootFormulas, rootsClass}
-use Rattle.meaning.specs.Verdict.{judged, holds, merged}
 use Rattle.meaning.specs.View.{wholeWords}
 
 module _ (I : Instrument) (roots : List ℕ) where

@@ -1,18 +1,12 @@
 -- Where less is compared, more states are related, and classes only grow (document 02, 3/14).
-use mathlib.Core.Path.{_≡_, ap, subst, sym}
-use mathlib.Core.Bool.{Bool, cond, false, true}
-use mathlib.Core.List.{List, [], _∷_}
-use lib.Dec.{T, eqb, eqb-refl, eqb→eq}
-use native.Mathlib.Omega.{arith}
-use Prim.Native.Nat.{_+_, _<_, _≤_, suc, zero, ℕ}
-use Rattle.words.specs.Sets.{intersection}
-use Rattle.meaning.specs.Classes.{ClassNames, classCount, classesBelow}
+use mathlib.Core.Path.{_≡_, subst, sym}
+use lib.Dec.{T}
+use Prim.Native.Nat.{ℕ}
 use Rattle.meaning.specs.Formula.{Formula, atom, eg, eu, ex, neg, or, top}
 use Rattle.meaning.specs.Marks.{Fail, Pass}
 use Rattle.meaning.specs.Relation.{InsidePairs, Rel, Rule, alike, failed, passed}
 use Rattle.meaning.specs.Table.{Table}
 use Rattle.meaning.specs.View.{View, recompared}
-use Rattle.meaning.proofs.Basic.Equivalence.{Equivalence}
 use Rattle.meaning.proofs.Marks.Compared.{marks-same}
 
 module _ {A : Type 0} (t : Table) (κ : View A) (d : ℕ → ℕ) (less : (x y : ℕ) → κ .compared x ≡ κ .compared y → d x ≡ d y) where

@@ -5,7 +5,7 @@ use mathlib.Core.Bool.{Bool, _&&_, false, not, true}
 use lib.Dec.{T, T-not, eqb, eqb-refl, eqb→eq, not-T}
 use lib.ListN.{getD, length}
 use Prim.Native.Nat.{_<_, _^_, ℕ}
-use Rattle.words.specs.Sets.{built, has, intersection}
+use Rattle.words.specs.Sets.{has}
 use Rattle.words.proofs.Built.{built-lt, has-built}
 use Rattle.words.proofs.Members.{has-intersection, intersection-lt, same-members}
 use Rattle.meaning.specs.Formula.{Formula, atom, eg, eu, ex, neg, or, top}
