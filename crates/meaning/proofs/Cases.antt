@@ -29,7 +29,7 @@ use Rattle.meaning.specs.Reference.Marks.{failB, passB}
 use Rattle.meaning.specs.Reference.Merged.{mergedB}
 use Rattle.meaning.specs.Reference.Nodes.{beneathB}
 use Rattle.meaning.specs.Reference.Relation.{rootClass}
-use Rattle.meaning.specs.Reference.Tests.{allBelow}
+use Rattle.meaning.specs.Reference.Tests.{allBelow, allOf}
 use Rattle.meaning.specs.Reference.Truth.{truthB}
 use Rattle.meaning.specs.Reference.Verdict.{rootClasses, verdictB}
 use Rattle.meaning.specs.Reference.WellFormed.{acceptedB, isStartB}
@@ -315,7 +315,10 @@ reads-means (found c e) f h =
 abbrev pub caseB : Case → Bool
 caseB r = readsB (readFile (r .file)) (r .fact)
 
--- all the starred cases
-pub starred : All CaseHolds cases
+-- all the starred cases: tested, and so they hold
+starred-tested : T (allOf caseB cases)
 unfolding digit built insert intersection withAll groups listOf between lessThan signal component named node whole
-starred = all-sound CaseHolds caseB (λ r. reads-means (readFile (r .file)) (r .fact)) cases tt
+starred-tested = tt
+
+pub starred : All CaseHolds cases
+starred = all-sound CaseHolds caseB (λ r. reads-means (readFile (r .file)) (r .fact)) cases starred-tested
