@@ -17,18 +17,19 @@ module _ (I : Instrument) (roots : List ℕ) where
 abbrev row : List ℕ → Fact → Case
 row file f = record { file = file; fact = f }
 
--- two states that stay, alike but for the lamp, signal 0; and the bytes after their number and inputs
+-- a component of two states that stay, alike but for the lamp, signal 0
 abbrev lampOnly : List ℕ
 lampOnly = 2 ∷ 0 ∷ 1 ∷ 0 ∷ 0 ∷ 1 ∷ 1 ∷ 2 ∷ []
 
--- a component that drives signal 1, high in its state 0 alone, and goes from each state to the other; it reads nothing; it lists the lamp as an
--- input, and each set stands twice; where the lamp is high it stays
+-- A component that drives signal 1, high in its state 0 alone. It goes from each state to the other and reads nothing;
 abbrev other : List ℕ
 other = 2 ∷ 0 ∷ 1 ∷ 1 ∷ 1 ∷ 0 ∷ 2 ∷ 1 ∷ []
 
+-- it lists the lamp as an input, and goes as before;
 abbrev listing : List ℕ
 listing = 2 ∷ 1 ∷ 0 ∷ 1 ∷ 1 ∷ 1 ∷ 0 ∷ 2 ∷ 2 ∷ 1 ∷ 1 ∷ []
 
+-- it stays where the lamp is high.
 abbrev obeying : List ℕ
 obeying = 2 ∷ 1 ∷ 0 ∷ 1 ∷ 1 ∷ 1 ∷ 0 ∷ 2 ∷ 1 ∷ 1 ∷ 2 ∷ []
 
