@@ -1,7 +1,7 @@
 //! Chains with a blinking lamp, which no other component reads: two states for each place of a
-//! chain, which are one class.
+//! chain, which are one class. And chains whose ends nobody reads, which merge to a few states.
 
-use super::steady::told_apart;
+use super::steady::{avoided, chains as steady_chains, told_apart};
 use super::Input;
 use second::instrument::{Instrument, Node, Table, WrittenSets};
 
@@ -27,11 +27,21 @@ fn chains(places: [usize; 4], nodes: Vec<Node>) -> Instrument {
     Instrument { signals: 12, tables, nodes, starts: vec![vec![0; 4]] }
 }
 
+/// Chains of which no component lists another's end as an input.
+fn unread() -> Instrument {
+    let mut instrument = steady_chains([8; 4], true, avoided());
+    for table in instrument.tables.iter_mut() {
+        table.inputs = vec![8, 9, 10, 11];
+    }
+    instrument
+}
+
 pub fn inputs() -> Vec<Input> {
     let of = |name: &str, places| Input::new(name, &chains(places, told_apart(24)));
     vec![
         of("lamps, chains 4 x 16, relations of EU, 24 nodes, 4,096 merged states", [8; 4]),
         of("lamps, chains 4 x 64, relations of EU, 24 nodes", [32; 4]),
         of("lamps, chains 64 x 64 x 4 x 4, 4,096 merged states", [32, 32, 2, 2]),
+        Input::new("lamps, chains 4 x 8, marks of EG, ends unread, 2 merged states", &unread()),
     ]
 }

@@ -3,6 +3,14 @@
 use super::Input;
 use second::instrument::{Instrument, Node, Table, WrittenSets};
 
+/// What component c lists: the next one's signal, which is compared then, and three of the four
+/// external signals 8 to 11.
+fn inputs_of(c: usize) -> Vec<usize> {
+    let mut inputs = vec![(c + 1) % 4];
+    inputs.extend((8..12).filter(|&signal| signal != 8 + c));
+    inputs
+}
+
 /// From state to state, upwards or downwards, and stays at the end, where it drives signal c.
 fn chain(c: usize, states: usize, up: bool) -> Table {
     let place = |v: usize| if up { v } else { states - 1 - v };
@@ -13,7 +21,7 @@ fn chain(c: usize, states: usize, up: bool) -> Table {
         successors[place(v)] = vec![vec![place((v + 1).min(states - 1))]; 16];
     }
     Table {
-        inputs: vec![8, 9, 10, 11],
+        inputs: inputs_of(c),
         outputs: vec![c],
         levels,
         sets: WrittenSets::new(successors),
@@ -21,7 +29,7 @@ fn chain(c: usize, states: usize, up: bool) -> Table {
 }
 
 /// Four chains of these state counts, started at 0.
-fn chains(sizes: [usize; 4], up: bool, nodes: Vec<Node>) -> Instrument {
+pub fn chains(sizes: [usize; 4], up: bool, nodes: Vec<Node>) -> Instrument {
     let tables = sizes.iter().enumerate().map(|(c, &states)| chain(c, states, up)).collect();
     Instrument { signals: 12, tables, nodes, starts: vec![vec![0; 4]] }
 }
@@ -41,7 +49,7 @@ fn reached() -> Vec<Node> {
 }
 
 /// Marks of an end avoided: EG of not end.
-fn avoided() -> Vec<Node> {
+pub fn avoided() -> Vec<Node> {
     let mut nodes = ends();
     nodes.extend((1..5).map(Node::Not));
     nodes.extend((0..15).map(|k| Node::Eg(5 + k % 4)));
