@@ -50,16 +50,16 @@ names = 4 ∷ 1 ∷ 0 ∷ 1 ∷ 1 ∷ 3 ∷ 0 ∷ 1 ∷ 5 ∷ 2 ∷ []
 abbrev two : List ℕ → List ℕ → List ℕ → List ℕ
 two first second formula = (2 ∷ 2 ∷ []) ++ (first ++ (second ++ (formula ++ (1 ∷ 0 ∷ 0 ∷ []))))
 
--- three states that stay, with outputs 0 to 7; component 1 drives signal 8 as `listing` does and lists the signal `read`; EG of signal 8
+-- three states that stay, with outputs 0 to 7; component 1 drives signal 8 as `listing` does and lists the signal `read`; EX of signal 8
 abbrev pub eight : List ℕ → ℕ → List ℕ
 eight words read =
     (2 ∷ 9 ∷ 3 ∷ 0 ∷ 8 ∷ 0 ∷ 1 ∷ 2 ∷ 3 ∷ 4 ∷ 5 ∷ 6 ∷ 7 ∷ [])
-    ++ (words ++ ((1 ∷ 2 ∷ 4 ∷ 2 ∷ 1 ∷ []) ++ ((read ∷ []) ++ (1 ∷ 8 ∷ 1 ∷ 0 ∷ 2 ∷ 2 ∷ 1 ∷ 1 ∷ 2 ∷ 1 ∷ 8 ∷ 5 ∷ 0 ∷ 1 ∷ 0 ∷ 0 ∷ []))))
+    ++ (words ++ ((1 ∷ 2 ∷ 4 ∷ 2 ∷ 1 ∷ []) ++ ((read ∷ []) ++ (1 ∷ 8 ∷ 1 ∷ 0 ∷ 2 ∷ 2 ∷ 1 ∷ 1 ∷ 2 ∷ 1 ∷ 8 ∷ 4 ∷ 0 ∷ 1 ∷ 0 ∷ 0 ∷ []))))
 
 -- one component alone, of two states with signal 2 and one without, that goes there where the external signal 0 is high; the first two differ in
--- a lamp, signal 1; EG of signal 2
+-- a lamp, signal 1; EX of signal 2
 abbrev pub alone : List ℕ
-alone = 1 ∷ 3 ∷ 3 ∷ 1 ∷ 0 ∷ 2 ∷ 1 ∷ 2 ∷ 2 ∷ 3 ∷ 0 ∷ 1 ∷ 4 ∷ 2 ∷ 4 ∷ 4 ∷ 4 ∷ 2 ∷ 1 ∷ 2 ∷ 5 ∷ 0 ∷ 1 ∷ 0 ∷ []
+alone = 1 ∷ 3 ∷ 3 ∷ 1 ∷ 0 ∷ 2 ∷ 1 ∷ 2 ∷ 2 ∷ 3 ∷ 0 ∷ 1 ∷ 4 ∷ 2 ∷ 4 ∷ 4 ∷ 4 ∷ 2 ∷ 1 ∷ 2 ∷ 4 ∷ 0 ∷ 1 ∷ 0 ∷ []
 
 abbrev pub lampCases : List Case
 lampCases =
