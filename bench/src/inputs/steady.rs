@@ -20,12 +20,7 @@ fn chain(c: usize, states: usize, up: bool) -> Table {
         levels[place(v)] = vec![v == states - 1];
         successors[place(v)] = vec![vec![place((v + 1).min(states - 1))]; 16];
     }
-    Table {
-        inputs: inputs_of(c),
-        outputs: vec![c],
-        levels,
-        sets: WrittenSets::new(successors),
-    }
+    Table { inputs: inputs_of(c), outputs: vec![c], levels, sets: WrittenSets::new(successors) }
 }
 
 /// Four chains of these state counts, started at 0.
