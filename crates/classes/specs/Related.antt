@@ -23,7 +23,8 @@ relatedBoth n a b = rows n (λ x y. rel a x y && rel b x y)
 
 module _ (states inputs : ℕ) (succ compared : List ℕ) where
   -- EX: related for the operand, and "both PASS, or both FAIL, of the node; or equal output words, and on every assignment each non-FAIL
-  -- successor of either has a related successor of the other", where non-FAIL and related are those of the operand
+  -- successor of either has a related successor of the other", where the words are those that are compared, and non-FAIL and related are those
+  -- of the operand
   unfoldable pub relatedEx : List ℕ → ℕ → ℕ → ℕ → List ℕ
   relatedEx operand pass fail operandFail =
       rows states (λ x y. rel operand x y

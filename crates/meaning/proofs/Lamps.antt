@@ -13,10 +13,9 @@ use Rattle.meaning.specs.Classes.{ClassNames, classCount, classesBelow}
 use Rattle.meaning.specs.Combination.{count}
 use Rattle.meaning.specs.Formula.{Formula, atom}
 use Rattle.meaning.specs.Instrument.{Accepted, Instrument, components, table}
-use Rattle.meaning.specs.LampCases.{classesBefore, sizeBefore}
 use Rattle.meaning.specs.Marks.{Fail, Pass}
 use Rattle.meaning.specs.Relation.{InsidePairs, Rel}
-use Rattle.meaning.specs.Roots.{RelAll, classesAtRoots, rootFormulas, rootsSize}
+use Rattle.meaning.specs.Roots.{RelAll, classesAtRoots, classesBefore, rootFormulas, rootsSize, sizeBefore}
 use Rattle.meaning.specs.Seen.{seen, viewOf}
 use Rattle.meaning.specs.Table.{Table, drives}
 use Rattle.meaning.specs.View.{wholeWords}

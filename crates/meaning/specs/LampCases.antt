@@ -1,18 +1,7 @@
--- 3/14 (document 02): the classes as they were where whole output words were compared, and cases of lamps that nothing reads.
+-- Cases of 3/14 (document 02): lamps that nothing reads, and outputs that another component lists as an input.
 use mathlib.Core.List.{List, [], _∷_, _++_}
 use Prim.Native.Nat.{ℕ}
 use Rattle.meaning.specs.Cases.{Case, Fact, classes, combinations, fullWords, mergedWords, wereClasses}
-use Rattle.meaning.specs.Instrument.{Instrument, components, table}
-use Rattle.meaning.specs.Merged.{mergedCount}
-use Rattle.meaning.specs.Roots.{rootFormulas, rootsClass}
-use Rattle.meaning.specs.View.{wholeWords}
-
-module _ (I : Instrument) (roots : List ℕ) where
-  abbrev pub classesBefore : ℕ → ℕ → ℕ
-  classesBefore i = rootsClass (table I i) (wholeWords (table I i)) (rootFormulas I roots)
-
-  abbrev pub sizeBefore : ℕ
-  sizeBefore = mergedCount (components I) (table I) classesBefore
 
 abbrev row : List ℕ → Fact → Case
 row file f = record { file = file; fact = f }

@@ -11,7 +11,7 @@ use Rattle.meaning.specs.Table.{Table}
 use Rattle.meaning.specs.Formula.{Formula}
 use Rattle.meaning.specs.Nodes.{Node, formulaAt}
 use Rattle.meaning.specs.Instrument.{Instrument, components, table, rootNode}
-use Rattle.meaning.specs.View.{View}
+use Rattle.meaning.specs.View.{View, wholeWords}
 use Rattle.meaning.specs.Seen.{valueOf, viewOf}
 use Rattle.meaning.specs.Relation.{Rel}
 use Rattle.meaning.specs.Merged.{mergedCount}
@@ -76,3 +76,10 @@ module _ (I : Instrument) (roots : List ℕ) where
   -- the lookup: the bit of node r at the merged state of the states s
   abbrev pub lookedAt : ℕ → (ℕ → ℕ) → Bool
   lookedAt r s = lookupB n S classesAtRoots (viewOf I) (valueOf I) (I .signals) (formula r) s
+
+  -- classes and merged states as they were where whole output words were compared, before document 02, 3/14
+  abbrev pub classesBefore : ℕ → ℕ → ℕ
+  classesBefore i = rootsClass (S i) (wholeWords (S i)) rootFormulas
+
+  abbrev pub sizeBefore : ℕ
+  sizeBefore = mergedCount n S classesBefore

@@ -28,6 +28,11 @@ pub and-r : (a b : Bool) → T (a && b) → T b
 and-r true b h = h
 and-r false b h = absurd h
 
+-- a conjunct matters only where the other one is true
+pub and-same : (a b c : Bool) → (T a → b ≡ c) → (a && b) ≡ (a && c)
+and-same true b c h = h tt
+and-same false b c h = refl
+
 -- what follows of conjunctions, by search
 pub ruleset conj = (and-in, and-l, and-r)
 

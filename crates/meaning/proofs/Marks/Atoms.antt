@@ -13,11 +13,11 @@ use Rattle.meaning.specs.Instrument.{Accepted, Instrument, WellFormed, c
 use Rattle.meaning.specs.Seen.{readOutputs, seen, value, valueOf, viewOf}
 use Rattle.meaning.specs.Table.{Table, Total, drives, owns}
 use Rattle.meaning.specs.View.{View, atoms, comparing}
-use Rattle.meaning.proofs.Basic.Booleans.{and-l, and-r, beq-eq, eq-beq, imp-in, imp-out, own-eq}
+use Rattle.meaning.proofs.Basic.Booleans.{and-l, and-r, and-same, beq-eq, eq-beq, imp-in, imp-out, own-eq}
 use Rattle.meaning.proofs.Basic.Equivalence.{Equivalence}
 use Rattle.meaning.proofs.Basic.Bounded.{any-in, any-out, any-same}
 use Rattle.meaning.proofs.File.Tables.{drives-owns}
-use Rattle.meaning.proofs.Marks.Compared.{and-same, compared-means}
+use Rattle.meaning.proofs.Marks.Compared.{compared-means}
 use Rattle.meaning.proofs.Marks.Laws.{Fits, Lawful, Local, Shows, Sound}
 use Rattle.meaning.proofs.Marks.Sets.{here}
 

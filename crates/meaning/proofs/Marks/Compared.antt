@@ -1,7 +1,7 @@
 -- What is compared of a component's outputs, bit by bit, and that marks do not depend on it (document 02, 3/14).
 use mathlib.Core.Path.{_∙_, _≡_, ap, ap₂, refl, subst, sym}
 use mathlib.Core.Logic.{_↔_, _⊎_}
-use mathlib.Core.Bool.{Bool, _&&_, false, not, true}
+use mathlib.Core.Bool.{Bool, _&&_, not}
 use lib.Dec.{T, T-not, eqb, eqb-refl, eqb→eq, not-T}
 use lib.ListN.{getD, length}
 use Prim.Native.Nat.{_<_, _^_, ℕ}
@@ -14,13 +14,8 @@ use Rattle.meaning.specs.Seen.{ReadByAnother, readElsewhere, readOutputs
 use Rattle.meaning.specs.Table.{Table, owns}
 use Rattle.meaning.specs.Tests.{anyBelow, listed}
 use Rattle.meaning.specs.View.{View, comparing, recompared}
-use Rattle.meaning.proofs.Basic.Booleans.{and-in, and-l, and-r, is-true, test-eq}
+use Rattle.meaning.proofs.Basic.Booleans.{and-in, and-l, and-r, and-same, is-true, test-eq}
 use Rattle.meaning.proofs.Basic.Bounded.{any-in, any-out, any-same}
-
--- a conjunct matters only where the other one is true
-pub and-same : (a b c : Bool) → (T a → b ≡ c) → (a && b) ≡ (a && c)
-and-same true b c h = h tt
-and-same false b c h = refl
 
 module _ (n : ℕ) (S : ℕ → Table) (i : ℕ) where
   abbrev t : Table
