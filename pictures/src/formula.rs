@@ -12,12 +12,6 @@ pub fn node_text(node: &Node) -> String {
         Node::Ex(a) => format!("EX {a}"),
         Node::Eg(a) => format!("EG {a}"),
         Node::Eu(a, b) => format!("EU {a} {b}"),
-        Node::And(a, b) => format!("{a} and {b}"),
-        Node::Implies(a, b) => format!("{a} implies {b}"),
-        Node::Ax(a) => format!("AX {a}"),
-        Node::Af(a) => format!("AF {a}"),
-        Node::Ag(a) => format!("AG {a}"),
-        Node::Au(a, b) => format!("AU {a} {b}"),
     }
 }
 
@@ -34,12 +28,6 @@ pub fn formula_text(nodes: &[Node], k: usize) -> String {
         Node::Ex(a) => format!("EX {}", part(a)),
         Node::Eg(a) => format!("EG {}", part(a)),
         Node::Eu(a, b) => format!("{} EU {}", part(a), part(b)),
-        Node::And(a, b) => format!("{} and {}", part(a), part(b)),
-        Node::Implies(a, b) => format!("{} implies {}", part(a), part(b)),
-        Node::Ax(a) => format!("AX {}", part(a)),
-        Node::Af(a) => format!("AF {}", part(a)),
-        Node::Ag(a) => format!("AG {}", part(a)),
-        Node::Au(a, b) => format!("{} AU {}", part(a), part(b)),
     }
 }
 

@@ -1,5 +1,5 @@
 //! Why states are in one class, and why classes are apart: document 01, "Classes",
-//! and document 02, 1/14 and 3/14.
+//! and document 02, 3/14.
 
 use second::instrument::Node;
 
@@ -9,8 +9,6 @@ use crate::component::{Class, Component, Mark};
 /// ask for something.
 pub fn together(component: &Component, class: &Class) -> Vec<String> {
     let mut reasons = Vec::new();
-    // FAIL of AU is PASS of the EU or of the EG in it, and each has to be alike.
-    let mut failed_untils = Vec::new();
     let mut marked = [(Mark::Pass, vec![]), (Mark::Fail, vec![]), (Mark::Neither, vec![])];
     for k in component.nodes_under_root() {
         let mark = component.marks[k][class.name];
@@ -19,8 +17,7 @@ pub fn together(component: &Component, class: &Class) -> Vec<String> {
                 let level = if mark == Mark::Pass { "high" } else { "low" };
                 reasons.push(format!("s{signal} {level}"));
             }
-            Node::Au(_, _) if mark == Mark::Fail => failed_untils.push(k),
-            node if asks_of_paths(&node) => {
+            Node::Ex(_) | Node::Eg(_) | Node::Eu(_, _) => {
                 let listed = marked.iter_mut().filter(|(kind, _)| *kind == mark);
                 listed.for_each(|(_, nodes)| nodes.push(k));
             }
@@ -35,24 +32,10 @@ pub fn together(component: &Component, class: &Class) -> Vec<String> {
             Mark::Neither => format!("{}matching steps for {nodes}", equal_outputs(component)),
         });
     }
-    if !failed_untils.is_empty() {
-        reasons.push(format!("FAIL of {}, its EU and its EG alike", listed(&failed_untils)));
-    }
     if reasons.is_empty() {
         reasons.push("the formula asks for nothing here".to_string());
     }
     reasons
-}
-
-/// Whether there is an EX, EG or EU in the node. What AX, AF and AG deny is one, with the
-/// marks exchanged.
-fn asks_of_paths(node: &Node) -> bool {
-    match node {
-        Node::Ex(_) | Node::Eg(_) | Node::Eu(_, _) => true,
-        Node::Ax(_) | Node::Af(_) | Node::Ag(_) | Node::Au(_, _) => true,
-        Node::True | Node::Signal(_) | Node::Not(_) | Node::Or(_, _) => false,
-        Node::And(_, _) | Node::Implies(_, _) => false,
-    }
 }
 
 /// The outputs that have to be equal: those that another component reads.

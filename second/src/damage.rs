@@ -191,7 +191,7 @@ fn faulty_values(instrument: &Instrument, field: &Field) -> Vec<(u64, Refusal)> 
             faults.extend(faults.first().map(|&(least, refusal)| (own + least, refusal)));
             faults
         }
-        Place::Kind => at_or_above(own, 13, Refusal::KindOrOperand),
+        Place::Kind => at_or_above(own, 7, Refusal::KindOrOperand),
         Place::NodeOperand(k) => at_or_above(own, k as u128, Refusal::KindOrOperand),
         Place::SignalOperand => undriven_signals(own, instrument),
         Place::StartState(c) => {

@@ -1,6 +1,5 @@
 //! The bench cases of document 01, and instruments at its limits.
 
-pub mod always;
 pub mod lamps;
 pub mod stays;
 pub mod wide;

@@ -140,8 +140,7 @@ impl Table {
     }
 }
 
-/// A formula node of the file; operands other than a signal are numbers of earlier
-/// nodes. Kinds 7 to 12 are short for others (document 02, 1/14): src/spelling.rs.
+/// A formula node; operands other than a signal are numbers of earlier nodes.
 #[derive(Clone, Copy, Debug, PartialEq, Eq)]
 pub enum Node {
     True,
@@ -151,12 +150,6 @@ pub enum Node {
     Ex(usize),
     Eg(usize),
     Eu(usize, usize),
-    And(usize, usize),
-    Implies(usize, usize),
-    Ax(usize),
-    Af(usize),
-    Ag(usize),
-    Au(usize, usize),
 }
 
 impl Node {
@@ -170,12 +163,6 @@ impl Node {
             Node::Ex(_) => 4,
             Node::Eg(_) => 5,
             Node::Eu(_, _) => 6,
-            Node::And(_, _) => 7,
-            Node::Implies(_, _) => 8,
-            Node::Ax(_) => 9,
-            Node::Af(_) => 10,
-            Node::Ag(_) => 11,
-            Node::Au(_, _) => 12,
         }
     }
 
@@ -184,9 +171,7 @@ impl Node {
         match *self {
             Node::True | Node::Signal(_) => vec![],
             Node::Not(a) | Node::Ex(a) | Node::Eg(a) => vec![a],
-            Node::Ax(a) | Node::Af(a) | Node::Ag(a) => vec![a],
             Node::Or(a, b) | Node::Eu(a, b) => vec![a, b],
-            Node::And(a, b) | Node::Implies(a, b) | Node::Au(a, b) => vec![a, b],
         }
     }
 }

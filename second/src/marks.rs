@@ -1,10 +1,8 @@
-//! PASS and FAIL of a component. Document 01, "Marks". A node of kinds 7 to 12 has the
-//! marks of its spelled-out formula (document 02, 1/14).
+//! PASS and FAIL of a component. Document 01, "Marks".
 
 use crate::instrument::{Node, Table};
 use crate::paths::{some_path_reaches, some_path_stays};
 use crate::reading::Reading;
-use crate::spelling::{spelled_out, Plain};
 
 /// The PASS and FAIL states of a component for one node.
 #[derive(Clone, Debug, PartialEq, Eq)]
@@ -13,14 +11,8 @@ pub struct Marks {
     pub fail: Vec<bool>,
 }
 
-/// The marks of a component for every node of the file.
-pub fn marks_of_file(table: &Table, nodes: &[Node], reading: Reading) -> Vec<Marks> {
-    let spelling = spelled_out(nodes, reading);
-    spelling.of_file(&marks(table, &spelling.nodes, reading))
-}
-
-/// The marks of a component for every node of a spelled-out formula.
-pub fn marks(table: &Table, nodes: &[Plain], reading: Reading) -> Vec<Marks> {
+/// The marks of a component for every node.
+pub fn marks(table: &Table, nodes: &[Node], reading: Reading) -> Vec<Marks> {
     let mut marks: Vec<Marks> = Vec::new();
     for node in nodes {
         let of_node = mark_node(table, node, &marks, reading);
@@ -29,35 +21,35 @@ pub fn marks(table: &Table, nodes: &[Plain], reading: Reading) -> Vec<Marks> {
     marks
 }
 
-fn mark_node(table: &Table, node: &Plain, marks: &[Marks], reading: Reading) -> Marks {
+fn mark_node(table: &Table, node: &Node, marks: &[Marks], reading: Reading) -> Marks {
     let states = 0..table.states();
     let none = vec![false; table.states()];
-    let path_kind = matches!(node, Plain::Ex(_) | Plain::Eg(_) | Plain::Eu(_, _));
+    let path_kind = matches!(node, Node::Ex(_) | Node::Eg(_) | Node::Eu(_, _));
     if path_kind && reading == Reading::NothingMarked {
         return Marks { pass: none.clone(), fail: none };
     }
     match *node {
-        Plain::True => Marks { pass: vec![true; table.states()], fail: none },
-        Plain::Signal(signal) if table.drives(signal) => {
+        Node::True => Marks { pass: vec![true; table.states()], fail: none },
+        Node::Signal(signal) if table.drives(signal) => {
             let pass: Vec<bool> = states.map(|s| table.drives_high(s, signal)).collect();
             let fail = pass.iter().map(|high| !high).collect();
             Marks { pass, fail }
         }
-        Plain::Signal(_) => {
+        Node::Signal(_) => {
             let fail = vec![reading == Reading::ForeignSignalFails; table.states()];
             Marks { pass: none, fail }
         }
-        Plain::Not(a) => Marks { pass: marks[a].fail.clone(), fail: marks[a].pass.clone() },
-        Plain::Or(a, b) => or_marks(&marks[a], &marks[b], reading),
-        Plain::Ex(a) => Marks {
+        Node::Not(a) => Marks { pass: marks[a].fail.clone(), fail: marks[a].pass.clone() },
+        Node::Or(a, b) => or_marks(&marks[a], &marks[b], reading),
+        Node::Ex(a) => Marks {
             pass: states.clone().map(|s| ex_pass(table, s, &marks[a].pass, reading)).collect(),
             fail: states.map(|s| only_successors_in(table, s, &marks[a].fail, reading)).collect(),
         },
-        Plain::Eg(a) => Marks {
+        Node::Eg(a) => Marks {
             pass: eg_pass(table, &marks[a].pass, reading),
             fail: eg_fail(table, &marks[a].fail, reading),
         },
-        Plain::Eu(a, b) => Marks {
+        Node::Eu(a, b) => Marks {
             pass: eu_pass(table, &marks[a].pass, &marks[b].pass, reading),
             fail: eu_fail(table, &marks[a].fail, &marks[b].fail, reading),
         },

@@ -5,7 +5,6 @@ use std::ops::Range;
 
 use crate::bench::Bench;
 use crate::combination::{self, Combination};
-use crate::instrument::Instrument;
 use crate::limits;
 use crate::listing::listing;
 use crate::reader::read;
@@ -13,7 +12,7 @@ use crate::reading::Reading;
 use crate::refusal::Refusal;
 use crate::truth::truth;
 use crate::verdict::{verdict, Verdict};
-use crate::word::{word_of, word_of_nodes};
+use crate::word::{bit, word_of, word_of_nodes};
 
 /// An accepted file with what the bench computed of it.
 pub struct Queries {
@@ -36,28 +35,16 @@ impl Queries {
         Ok(Queries { file: file.to_vec(), stretches: accepted.stretches, reading, bench })
     }
 
-    /// The same for tables, nodes and starts without a file, so without stretches. There
-    /// may be more nodes than a file can hold; over 32 have no words, only bits.
-    pub fn without_file(instrument: &Instrument, reading: Reading) -> Queries {
-        let bench = Bench::of(instrument, reading);
-        Queries { file: vec![], stretches: vec![], reading, bench }
-    }
-
     /// A word per index, bit k the truth of node k; 11 if there are too many.
     pub fn full(&self) -> Result<Vec<u32>, Refusal> {
-        Ok(self.full_bits()?.iter().map(|bits| word_of_nodes(bits)).collect())
-    }
-
-    /// The bits of these words.
-    pub fn full_bits(&self) -> Result<Vec<Vec<bool>>, Refusal> {
         let instrument = &self.bench.instrument;
         if combination::size(&instrument.tables) > limits::COMBINED_STATES {
             return Err(Refusal::FullTooLarge);
         }
         let combination = Combination::of(&instrument.tables, instrument.signals, self.reading);
         let truth = truth(&combination, &instrument.nodes, self.reading);
-        let bits = |i: usize| truth.iter().map(|node| node[i]).collect();
-        Ok((0..combination.size()).map(bits).collect())
+        let bits = |i: usize| truth.iter().map(|node| node[i]).collect::<Vec<bool>>();
+        Ok((0..combination.size()).map(|i| word_of_nodes(&bits(i))).collect())
     }
 
     /// Two words for every component and node, PASS then FAIL, components outermost.
@@ -80,7 +67,7 @@ impl Queries {
 
     /// A word per merged state, or 12.
     pub fn merged(&self) -> Result<Vec<u32>, Refusal> {
-        self.bench.merged_words()
+        self.bench.merged_words.clone()
     }
 
     /// Whether the root is true in the asked combined state: four state numbers
@@ -96,8 +83,10 @@ impl Queries {
                 return Err(Refusal::StateNotInComponent);
             }
         }
+        let words = self.bench.merged_words.as_ref().map_err(|&refusal| refusal)?;
         let states: Vec<usize> = asked[..tables.len()].iter().map(|&s| s as usize).collect();
-        self.bench.root_holds(&states)
+        let word = words[self.bench.merged_index(&states)];
+        Ok(bit(u64::from(word), self.bench.instrument.root()))
     }
 
     pub fn verdict(&self) -> Result<Verdict, Refusal> {

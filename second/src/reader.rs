@@ -136,12 +136,6 @@ impl Reader<'_> {
                 4 => Node::Ex(self.operand(k)?),
                 5 => Node::Eg(self.operand(k)?),
                 6 => Node::Eu(self.operand(k)?, self.operand(k)?),
-                7 => Node::And(self.operand(k)?, self.operand(k)?),
-                8 => Node::Implies(self.operand(k)?, self.operand(k)?),
-                9 => Node::Ax(self.operand(k)?),
-                10 => Node::Af(self.operand(k)?),
-                11 => Node::Ag(self.operand(k)?),
-                12 => Node::Au(self.operand(k)?, self.operand(k)?),
                 _ => return Err(Refusal::KindOrOperand),
             };
             nodes.push(node);

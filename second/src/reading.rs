@@ -64,30 +64,10 @@ pub enum Reading {
     UsedInsteadOfListed,
     /// A signal node keeps the level of an output only if another component lists it.
     SignalNodeOfReadOnly,
-    /// The EG inside AF is guarded by FAIL of the AF node.
-    AfGuardedByFail,
-    /// The EG inside AU is guarded by FAIL of the AU node.
-    AuGuardedByFail,
-    /// The EG inside AF and AU is not guarded.
-    NoGuardInside,
-    /// Relation at the EU inside AU is enough, its EG is left out.
-    AuRelationWithoutEg,
-    /// Steps to FAIL states of AX's operand, in place of PASS states, need no match.
-    AxExemptByFail,
-    /// a implies b is a or not b.
-    ImpliesExchanged,
-    /// AF on some path in place of all.
-    AfOnSomePath,
-    /// AG a is not (a EU not a).
-    AgUpToBreach,
-    /// A[a U b] also where b is never reached.
-    AuWithoutEg,
-    /// A[a U b] is broken by not a, also where b holds there.
-    AuBrokenByFirst,
 }
 
 /// Every wrong reading.
-pub const WRONG_READINGS: [Reading; 37] = [
+pub const WRONG_READINGS: [Reading; 27] = [
     Reading::EgMatchedByOperand,
     Reading::NoGuard,
     Reading::EuWithoutStepZero,
@@ -115,14 +95,4 @@ pub const WRONG_READINGS: [Reading; 37] = [
     Reading::ReadByEarlierOnly,
     Reading::UsedInsteadOfListed,
     Reading::SignalNodeOfReadOnly,
-    Reading::AfGuardedByFail,
-    Reading::AuGuardedByFail,
-    Reading::NoGuardInside,
-    Reading::AuRelationWithoutEg,
-    Reading::AxExemptByFail,
-    Reading::ImpliesExchanged,
-    Reading::AfOnSomePath,
-    Reading::AgUpToBreach,
-    Reading::AuWithoutEg,
-    Reading::AuBrokenByFirst,
 ];

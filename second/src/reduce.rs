@@ -156,12 +156,6 @@ fn with_operands(node: Node, renumbered: &dyn Fn(usize) -> usize) -> Node {
         Node::Ex(a) => Node::Ex(renumbered(a)),
         Node::Eg(a) => Node::Eg(renumbered(a)),
         Node::Eu(a, b) => Node::Eu(renumbered(a), renumbered(b)),
-        Node::And(a, b) => Node::And(renumbered(a), renumbered(b)),
-        Node::Implies(a, b) => Node::Implies(renumbered(a), renumbered(b)),
-        Node::Ax(a) => Node::Ax(renumbered(a)),
-        Node::Af(a) => Node::Af(renumbered(a)),
-        Node::Ag(a) => Node::Ag(renumbered(a)),
-        Node::Au(a, b) => Node::Au(renumbered(a), renumbered(b)),
     }
 }
 

@@ -1,10 +1,9 @@
-//! When two states of a component are related for a node of the spelled-out formula.
-//! Document 01, "Classes", and document 02, 1/14 and 3/14.
+//! When two states of a component are related for a node. Document 01, "Classes",
+//! and document 02, 3/14.
 
 use crate::instrument::{Node, Table};
 use crate::marks::Marks;
 use crate::reading::Reading;
-use crate::spelling::{Plain, Spelling};
 
 /// `related[x][y]`: whether the states x and y are related.
 pub type Relation = Vec<Vec<bool>>;
@@ -15,7 +14,7 @@ pub struct Component<'a> {
     pub table: &'a Table,
     /// For each output, whether the rule of EX, EG and EU compares it.
     pub compared: &'a [bool],
-    pub spelling: &'a Spelling,
+    pub nodes: &'a [Node],
     pub marks: &'a [Marks],
     pub reading: Reading,
 }
@@ -24,7 +23,7 @@ pub struct Component<'a> {
 /// that do not keep the node's rule until nothing changes.
 pub fn relations(component: &Component) -> Vec<Relation> {
     let mut relations = Vec::new();
-    for k in 0..component.spelling.nodes.len() {
+    for k in 0..component.nodes.len() {
         let largest = largest_relation(component, k, &relations);
         relations.push(largest);
     }
@@ -63,52 +62,28 @@ fn keeps_rule(
     x: usize,
     y: usize,
 ) -> bool {
-    let node = component.spelling.nodes[k];
+    let node = component.nodes[k];
     let own = &component.marks[k];
-    let operands = needed_operands(component, k);
-    let operands_related = operands.iter().all(|&a| earlier[a][x][y]);
+    let operands_related = node.operands().iter().all(|&a| earlier[a][x][y]);
     let first_need = operands_related || component.reading == Reading::WithoutOperandRelation;
     let both_marked = ((own.pass[x] && own.pass[y]) || (own.fail[x] && own.fail[y]))
         && component.reading != Reading::WithoutBothMarked;
     match node {
-        Plain::True => true,
-        Plain::Signal(signal) => same_level(component, signal, x, y),
-        Plain::Not(_) | Plain::Or(_, _) => operands_related,
-        Plain::Ex(a) => {
-            let fail = exempt_of_ex(component, k, a);
-            let matched = || steps_match(component, fail, &earlier[a], x, y);
-            first_need && (both_marked || matched())
-        }
-        Plain::Eg(a) if component.reading == Reading::EgMatchedByOperand => {
+        Node::True => true,
+        Node::Signal(signal) => same_level(component, signal, x, y),
+        Node::Not(_) | Node::Or(_, _) => operands_related,
+        Node::Ex(a) => {
             let matched = || steps_match(component, &component.marks[a].fail, &earlier[a], x, y);
             first_need && (both_marked || matched())
         }
-        Plain::Eg(_) | Plain::Eu(_, _) => {
+        Node::Eg(a) if component.reading == Reading::EgMatchedByOperand => {
+            let matched = || steps_match(component, &component.marks[a].fail, &earlier[a], x, y);
+            first_need && (both_marked || matched())
+        }
+        Node::Eg(_) | Node::Eu(_, _) => {
             let matched = || steps_match(component, &own.fail, relation, x, y);
             first_need && (both_marked || matched())
         }
-    }
-}
-
-/// The operands for which states must be related: all of them.
-fn needed_operands(component: &Component, k: usize) -> Vec<usize> {
-    let mut operands = component.spelling.nodes[k].operands();
-    let either = matches!(component.spelling.nodes[k], Plain::Or(_, _));
-    if component.reading == Reading::AuRelationWithoutEg && either {
-        // Inside AU only the EU remains.
-        if let Node::Au(_, _) = component.spelling.inside(k) {
-            operands.truncate(1);
-        }
-    }
-    operands
-}
-
-/// The states to which a step of an EX node needs no match: FAIL of its operand a.
-fn exempt_of_ex<'a>(component: &'a Component, k: usize, a: usize) -> &'a [bool] {
-    let marks = &component.marks[a];
-    match component.spelling.inside(k) {
-        Node::Ax(_) if component.reading == Reading::AxExemptByFail => &marks.pass,
-        _ => &marks.fail,
     }
 }
 

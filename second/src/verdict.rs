@@ -2,6 +2,7 @@
 
 use crate::bench::Bench;
 use crate::refusal::Refusal;
+use crate::word::bit;
 
 #[derive(Clone, Copy, Debug, PartialEq, Eq)]
 pub enum Stage {
@@ -36,11 +37,10 @@ pub fn verdict(bench: &Bench) -> Result<Verdict, Refusal> {
     if starts.iter().all(|start| has_pass(bench, start)) {
         return Ok(Verdict { holds: true, stage: Stage::Marks });
     }
-    let mut holds = true;
-    for start in starts {
-        holds = bench.root_holds(start)? && holds;
-    }
-    Ok(Verdict { holds, stage: Stage::Merged })
+    let words = bench.merged_words.as_ref().map_err(|&refusal| refusal)?;
+    let root = bench.instrument.root();
+    let satisfied = |start: &Vec<usize>| bit(u64::from(words[bench.merged_index(start)]), root);
+    Ok(Verdict { holds: starts.iter().all(satisfied), stage: Stage::Merged })
 }
 
 /// Whether some component marks its state of the start PASS of the root.

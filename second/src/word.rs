@@ -25,7 +25,7 @@ pub fn word_of(members: &[bool]) -> u64 {
     word
 }
 
-/// The same for the nodes of a file, of which there are at most 24.
+/// The same for the nodes of a formula, of which there are at most 24.
 pub fn word_of_nodes(truths: &[bool]) -> u32 {
     u32::try_from(word_of(truths)).expect("a word of nodes has at most 24 bits")
 }

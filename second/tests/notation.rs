@@ -1,6 +1,6 @@
 //! The text notation.
 
-use second::examples::{always, lamps, stays, CHAIN, PAIR};
+use second::examples::{lamps, stays, CHAIN, PAIR};
 use second::fields::write;
 use second::notation::{from_text, to_text};
 
@@ -8,7 +8,6 @@ const CHAIN_TEXT: &str = include_str!("../examples/chain.txt");
 const PAIR_TEXT: &str = include_str!("../examples/pair.txt");
 const STAYS_TEXT: &str = include_str!("../examples/stays.txt");
 const LAMPS_TEXT: &str = include_str!("../examples/lamps.txt");
-const ALWAYS_TEXT: &str = include_str!("../examples/always.txt");
 
 #[test]
 fn examples_are_the_files_of_document_01() {
@@ -22,17 +21,6 @@ fn the_unread_lamp() {
 }
 
 #[test]
-fn every_kind_of_requirement_on_all_paths() {
-    let instrument = from_text(ALWAYS_TEXT).expect("the example");
-    assert_eq!(instrument, always::pump());
-    let kinds: Vec<u32> = instrument.nodes.iter().map(|node| node.kind()).collect();
-    assert_eq!(kinds, [1, 1, 7, 2, 9, 10, 8, 12, 11, 7]);
-    let written = to_text(&instrument);
-    let last = "node 6 implies 2 4\nnode 7 AU 6 5\nnode 8 AG 3\nnode 9 and 7 8\nstart 0 0\n";
-    assert!(written.ends_with(last));
-}
-
-#[test]
 fn an_empty_set_and_a_spelled_out_stay_are_two_texts() {
     let instrument = from_text(STAYS_TEXT).expect("the example");
     assert_eq!(write(&instrument), stays::PAIR);
@@ -43,7 +31,7 @@ fn an_empty_set_and_a_spelled_out_stay_are_two_texts() {
 
 #[test]
 fn text_is_stable() {
-    for text in [CHAIN_TEXT, PAIR_TEXT, STAYS_TEXT, LAMPS_TEXT, ALWAYS_TEXT] {
+    for text in [CHAIN_TEXT, PAIR_TEXT, STAYS_TEXT, LAMPS_TEXT] {
         let instrument = from_text(text).expect("an example");
         let written = to_text(&instrument);
         let again = from_text(&written).expect("the written text");
@@ -60,7 +48,7 @@ fn message(piece: &str, replacement: &str) -> String {
 }
 
 /// A piece of the chain's text, its replacement, and the message.
-const ERRORS: [(&str, &str, &str); 30] = [
+const ERRORS: [(&str, &str, &str); 27] = [
     ("signals p\n", "\n", "line 3: the first line is: signals NAMES"),
     ("signals p", "signals p p", "line 2: signal p is named twice"),
     ("signals p", "signals a b c d e f g h i j k l m", "line 2: there are more than 12 signals"),
@@ -99,11 +87,8 @@ const ERRORS: [(&str, &str, &str); 30] = [
     ),
     ("    goes 1\n", "    on 1 goes 1\n", "line 7: after on there are 0 digits, each 0 or 1"),
     ("node 1 EG 0", "node 1 EG 1", "line 13: there is no node 1 here"),
-    ("node 1 EG 0", "node 1 AR 0", "line 13: AR is not a kind of node"),
+    ("node 1 EG 0", "node 1 AG 0", "line 13: AG is not a kind of node"),
     ("node 1 EG 0", "node 1 EU 0", "line 13: EU has 2 operands"),
-    ("node 1 EG 0", "node 1 AU 0", "line 13: AU has 2 operands"),
-    ("node 1 EG 0", "node 1 AF 0 0", "line 13: AF has 1 operands"),
-    ("node 1 EG 0", "node 1 and 0 1", "line 13: there is no node 1 here"),
     ("start 0", "start 3", "line 14: there is no state 3 here"),
     ("start 0", "start 0 0", "line 14: a start has 1 states"),
     ("start 0", "begin 0", "line 14: begin is not expected here"),

@@ -33,7 +33,7 @@ fn counter(c: usize, place: &[Vec<usize>; 3]) -> Table {
 }
 
 /// The three counters with a formula.
-pub fn chain(place: [Vec<usize>; 3], nodes: Vec<Node>) -> Instrument {
+fn chain(place: [Vec<usize>; 3], nodes: Vec<Node>) -> Instrument {
     let tables = (0..3).map(|c| counter(c, &place)).collect();
     Instrument { signals: 3, tables, nodes, starts: vec![] }
 }

@@ -1,6 +1,5 @@
 //! The inputs: instrument files, each with a name that says what is large about it.
 
-mod always;
 mod chains;
 mod formulas;
 mod four;
@@ -42,7 +41,6 @@ pub fn full() -> Vec<Input> {
     inputs.extend(random::inputs());
     inputs.extend(chains::inputs());
     inputs.extend(order::inputs());
-    inputs.extend(always::inputs());
     inputs
 }
 
@@ -53,6 +51,5 @@ pub fn short() -> Vec<Input> {
     inputs.extend(lamps::inputs());
     inputs.extend(merging::inputs());
     inputs.extend(order::short_inputs());
-    inputs.extend(always::inputs());
     inputs
 }

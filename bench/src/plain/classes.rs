@@ -1,7 +1,7 @@
 //! Crate classes: the relation of one node, as the row of states that each state is related to.
 
 use super::instrument::{ComparedWords, Table};
-use super::mark_rules::Mark;
+use super::marks::Mark;
 use super::words::{below, members, StateSet, MOST_STATES};
 
 pub type Relation = [StateSet; MOST_STATES];

@@ -58,24 +58,6 @@ pub enum Node {
     Ex(usize),
     Eg(usize),
     Eu(usize, usize),
-    And(usize, usize),
-    Implies(usize, usize),
-    Ax(usize),
-    Af(usize),
-    Ag(usize),
-    Au(usize, usize),
-}
-
-impl Node {
-    /// The operands that are nodes, as a set.
-    fn operands(self) -> u32 {
-        use Node::*;
-        match self {
-            True | Signal(_) => 0,
-            Not(x) | Ex(x) | Eg(x) | Ax(x) | Af(x) | Ag(x) => 1 << x,
-            Or(x, y) | Eu(x, y) | And(x, y) | Implies(x, y) | Au(x, y) => 1 << x | 1 << y,
-        }
-    }
 }
 
 pub struct Instrument {
@@ -123,9 +105,13 @@ impl Instrument {
     /// The root and the nodes under it: operands are earlier nodes, so one way down finds all.
     pub fn under_root(&self) -> u32 {
         let mut set = 1 << (self.nodes.len() - 1);
-        for (k, node) in self.nodes.iter().enumerate().rev() {
+        for (k, &node) in self.nodes.iter().enumerate().rev() {
             if set >> k & 1 == 1 {
-                set |= node.operands();
+                set |= match node {
+                    Node::True | Node::Signal(_) => 0,
+                    Node::Not(x) | Node::Ex(x) | Node::Eg(x) => 1 << x,
+                    Node::Or(x, y) | Node::Eu(x, y) => 1 << x | 1 << y,
+                };
             }
         }
         set

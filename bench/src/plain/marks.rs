@@ -1,33 +1,89 @@
-//! Crate marks: PASS and FAIL of the components' states, node by node, from each table alone.
+//! Crates mark_rules and marks: PASS and FAIL of the components' states, node by node, from each table alone.
 
 use super::instrument::{Instrument, Node, Table};
-use super::mark_rules::{eg, eu, ex, inside_au, not, or, Mark};
 use super::words::StateSet;
+
+/// The marks of a component at a node, as sets of states.
+#[derive(Clone, Copy)]
+pub struct Mark {
+    pub pass: StateSet,
+    pub fail: StateSet,
+}
+
+/// Whether a state's successor sets, one for each assignment, meet a set as they have to.
+type Meeting = fn(&[StateSet], StateSet) -> bool;
+
+/// On every assignment.
+fn always(row: &[StateSet], set: StateSet) -> bool {
+    row.iter().all(|w| w & set != 0)
+}
+
+/// On some assignment.
+fn sometimes(row: &[StateSet], set: StateSet) -> bool {
+    row.iter().any(|w| w & set != 0)
+}
+
+/// The states that have a successor in the set.
+#[inline(always)]
+fn preimage(table: &Table, set: StateSet, meets: Meeting) -> StateSet {
+    let mut found = 0;
+    for (x, row) in table.nexts.chunks_exact(1 << table.inputs.len()).enumerate() {
+        found |= StateSet::from(meets(row, set)) << x;
+    }
+    found
+}
+
+/// The largest set inside `keep` whose members have a successor in it.
+#[inline(always)]
+fn largest(table: &Table, keep: StateSet, meets: Meeting) -> StateSet {
+    let mut current = keep;
+    loop {
+        let kept = current & preimage(table, current, meets);
+        if kept == current {
+            return current;
+        }
+        current = kept;
+    }
+}
+
+/// The least set that holds the goal and each state of `through` that has a successor in it.
+#[inline(always)]
+fn least(table: &Table, through: StateSet, goal: StateSet, meets: Meeting) -> StateSet {
+    let mut current = goal;
+    loop {
+        let grown = current | through & preimage(table, current, meets);
+        if grown == current {
+            return current;
+        }
+        current = grown;
+    }
+}
 
 /// One node, from the marks of earlier ones.
 fn mark(table: &Table, node: Node, marks: &[Mark]) -> Mark {
     let all = table.all();
-    let always = Mark { pass: all, fail: 0 };
     match node {
-        Node::True => always,
+        Node::True => Mark { pass: all, fail: 0 },
         Node::Signal(signal) => match table.driving(signal) {
             Some(high) => Mark { pass: high, fail: all & !high },
             None => Mark { pass: 0, fail: 0 },
         },
-        Node::Not(x) => not(marks[x]),
-        Node::Or(x, y) => or(marks[x], marks[y]),
-        Node::Ex(x) => ex(table, marks[x]),
-        Node::Eg(x) => eg(table, marks[x]),
-        Node::Eu(x, y) => eu(table, marks[x], marks[y]),
-        Node::And(x, y) => not(or(not(marks[x]), not(marks[y]))),
-        Node::Implies(x, y) => or(not(marks[x]), marks[y]),
-        Node::Ax(x) => not(ex(table, not(marks[x]))),
-        Node::Af(x) => not(eg(table, not(marks[x]))),
-        Node::Ag(x) => not(eu(table, always, not(marks[x]))),
-        Node::Au(x, y) => {
-            let (e, g) = inside_au(table, marks[x], marks[y]);
-            not(or(e, g))
+        Node::Not(x) => Mark { pass: marks[x].fail, fail: marks[x].pass },
+        Node::Or(x, y) => {
+            Mark { pass: marks[x].pass | marks[y].pass, fail: marks[x].fail & marks[y].fail }
         }
+        Node::Ex(x) => Mark {
+            pass: preimage(table, marks[x].pass, always),
+            fail: all & !preimage(table, all & !marks[x].fail, sometimes),
+        },
+        Node::Eg(x) => Mark {
+            pass: largest(table, marks[x].pass, always),
+            fail: all & !largest(table, all & !marks[x].fail, sometimes),
+        },
+        Node::Eu(x, y) => Mark {
+            pass: least(table, marks[x].pass, marks[y].pass, always),
+            fail: all & !least(table, all & !marks[x].fail, all & !marks[y].fail, sometimes),
+        },
     }
 }
 
@@ -43,23 +99,4 @@ fn component_marks(table: &Table, nodes: &[Node]) -> Vec<Mark> {
 /// The marks of all components.
 pub fn all_marks(instrument: &Instrument) -> Vec<Vec<Mark>> {
     instrument.tables.iter().map(|table| component_marks(table, &instrument.nodes)).collect()
-}
-
-/// The states of a component that are FAIL of the EG at a node or inside it; of the node where
-/// there is none.
-fn barred(table: &Table, node: Node, mark: Mark, marks: &[Mark]) -> StateSet {
-    match node {
-        Node::Af(_) => mark.pass,
-        Node::Au(_, y) => eg(table, not(marks[y])).fail,
-        _ => mark.fail,
-    }
-}
-
-/// The barred states of all components at all nodes.
-pub fn all_bars(instrument: &Instrument, marks: &[Vec<Mark>]) -> Vec<Vec<StateSet>> {
-    let bars = |(table, marks): (&Table, &Vec<Mark>)| {
-        let nodes = instrument.nodes.iter().zip(marks);
-        nodes.map(|(&node, &mark)| barred(table, node, mark, marks)).collect()
-    };
-    instrument.tables.iter().zip(marks).map(bars).collect()
 }

@@ -2,21 +2,20 @@
 
 use super::instrument::Instrument;
 use super::labels::{write_truth, Bars};
-use super::mark_rules::Mark;
-use super::marks::all_bars;
+use super::marks::Mark;
 use super::merging::{lowest_states, merge, merged_index};
 use super::words::StateSet;
 
-/// Of each component's classes, those whose states are barred at each node.
-fn class_bars(names: &[Vec<u8>], barred: &[Vec<StateSet>]) -> Bars {
-    let classes = |names: &[u8], states: StateSet| {
+/// Of each component's classes, those that are FAIL of each node.
+fn class_bars(names: &[Vec<u8>], marks: &[Vec<Mark>]) -> Bars {
+    let classes = |names: &[u8], fail: StateSet| {
         let lowest = lowest_states(names).enumerate();
-        lowest.fold(0, |set, (c, x)| set | (states >> x & 1) << c)
+        lowest.fold(0, |set, (c, x)| set | (fail >> x & 1) << c)
     };
-    let bars = |(names, barred): (&Vec<u8>, &Vec<StateSet>)| {
-        barred.iter().map(|&states| classes(names, states)).collect()
+    let bars = |(names, marks): (&Vec<u8>, &Vec<Mark>)| {
+        marks.iter().map(|mark| classes(names, mark.fail)).collect()
     };
-    names.iter().zip(barred).map(bars).collect()
+    names.iter().zip(marks).map(bars).collect()
 }
 
 /// A word for every merged state: bit k the truth of node k if that is the root or stands under it.
@@ -26,8 +25,7 @@ pub fn write_merged(
     names: &[Vec<u8>],
     out: &mut [u32],
 ) {
-    let bars = class_bars(names, &all_bars(instrument, marks));
-    write_truth(&merge(instrument, names), &bars, out);
+    write_truth(&merge(instrument, names), &class_bars(names, marks), out);
     let mask = instrument.under_root();
     out.iter_mut().for_each(|word| *word &= mask);
 }

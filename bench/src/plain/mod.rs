@@ -5,7 +5,6 @@
 mod classes;
 mod instrument;
 mod labels;
-mod mark_rules;
 mod marks;
 mod merged;
 mod merging;

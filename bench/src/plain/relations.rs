@@ -3,7 +3,7 @@
 
 use super::classes::{both, everything, ex, fixed, names, same_level, Relation};
 use super::instrument::{ComparedWords, Instrument, Node, Table};
-use super::mark_rules::{inside_au, not, Mark};
+use super::marks::Mark;
 use super::words::MOST_STATES;
 
 /// One node, from the marks and the relations of earlier ones.
@@ -26,14 +26,6 @@ fn relation(
         Node::Ex(x) => ex(table, words, &rows[x], mark, marks[x].fail),
         Node::Eg(x) => fixed(table, words, &rows[x], mark),
         Node::Eu(x, y) => fixed(table, words, &both(&rows[x], &rows[y]), mark),
-        Node::And(x, y) | Node::Implies(x, y) => both(&rows[x], &rows[y]),
-        Node::Ax(x) => ex(table, words, &rows[x], not(mark), marks[x].pass),
-        Node::Af(x) | Node::Ag(x) => fixed(table, words, &rows[x], not(mark)),
-        Node::Au(x, y) => {
-            let (e, g) = inside_au(table, marks[x], marks[y]);
-            let until = fixed(table, words, &both(&rows[x], &rows[y]), e);
-            both(&until, &fixed(table, words, &rows[y], g))
-        }
     }
 }
 

@@ -33,7 +33,6 @@ pub fn complement(n: usize, x: &Set) -> Set {
 }
 
 /// The lowest member of `a` that is not one of `b`, from word `from` on.
-#[inline(always)]
 fn pick_from(width: usize, a: &Set, b: &Set, from: usize) -> Option<usize> {
     for (j, (&a, &b)) in a[..width].iter().zip(&b[..width]).enumerate().skip(from) {
         let rest = a & !b;
@@ -45,7 +44,6 @@ fn pick_from(width: usize, a: &Set, b: &Set, from: usize) -> Option<usize> {
 }
 
 /// A member of `a` that is not one of `b`, sought from word `from` on and then from the first on.
-#[inline(always)]
 pub fn pick(width: usize, a: &Set, b: &Set, from: usize) -> Option<usize> {
     pick_from(width, a, b, from).or_else(|| pick_from(width, a, b, 0))
 }

@@ -1,7 +1,7 @@
 //! Crates start_marks and verdict: whether every start satisfies the root, and the stage that tells.
 
 use super::instrument::Instrument;
-use super::mark_rules::Mark;
+use super::marks::Mark;
 use super::merged::{root_bit, write_merged};
 use super::merging::merged_count;
 use super::refusal::Refusal;

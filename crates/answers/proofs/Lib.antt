@@ -11,4 +11,3 @@ pub mod Asked
 pub mod Wide
 pub mod Same
 pub mod Stays
-pub mod Respelled

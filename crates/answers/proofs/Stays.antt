@@ -23,7 +23,7 @@ pub pair_alike : SameButStays (pair (1 ∷ 0 ∷ 0 ∷ [])) (empty_pair (1 ∷ 0
 unfolding digit insert with_all groups list_of between less_than signal component named node whole
 pair_alike = (same_filled _ _).1 refl
 
-pub refused_alike : SameButStays (two ++ (1 ∷ 2 ∷ 1 ∷ 13 ∷ [])) (two ++ (0 ∷ 0 ∷ 1 ∷ 13 ∷ []))
+pub refused_alike : SameButStays (two ++ (1 ∷ 2 ∷ 1 ∷ 7 ∷ [])) (two ++ (0 ∷ 0 ∷ 1 ∷ 7 ∷ []))
 unfolding digit insert with_all groups list_of between less_than signal component named node whole
 refused_alike = refl
 

@@ -7,4 +7,3 @@ pub mod Questions
 pub mod Printed
 pub mod Means
 pub mod Same
-pub mod Respelled

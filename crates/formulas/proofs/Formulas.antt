@@ -1,5 +1,5 @@
 -- A node by its kind, and a signal that it names, in the steps of the code (specs/File/Grammar of crate meaning, `named`, `operands`, `node`).
-use mathlib.Core.Path.{◌≡◌, refl, ap, ◌∙◌}
+use mathlib.Core.Path.{◌≡◌, refl, ap}
 use mathlib.Core.Bool.{true, false}
 use mathlib.Core.List.{List}
 use native.Mathlib.Omega.{arith}
@@ -9,7 +9,7 @@ use Rattle.words.specs.Sets.{has}
 use Rattle.meaning.specs.Atoms.{Atom}
 use Rattle.meaning.specs.Nodes as formula
 use Rattle.meaning.specs.File.Parser.{Got, found, fault, on}
-use Rattle.meaning.specs.File.Grammar.{number, less_than, earlier, named, unary, binary, operands, node, limits}
+use Rattle.meaning.specs.File.Grammar.{number, less_than, named, operands, node, limits}
 use Rattle.instrument.specs.declared.Node.{Node}
 use Rattle.instrument.specs.Layout.{node_of}
 use Rattle.parsing.specs.Stages.{mapped}
@@ -33,17 +33,6 @@ two f kind h (found a n) other = second (other n)
     second (fault r) = refl
 two f kind h (fault r) other = refl
 
--- the same where the operands are earlier nodes
-module _ (k : ℕ) (file : List ℕ) (at : ℕ) where
-  pub one_earlier : (f : ℕ → formula.Node Atom) (kind : ℕ) → ((a : ℕ) → one_operand kind a ≡ node_of (f a)) → (g : Got Node)
-      → g ≡ mapped (one_operand kind) (less_than limits k 7 file at) → g ≡ mapped node_of (unary limits f (earlier limits k) file at)
-  one_earlier f kind h g e = e ∙ one f kind h (less_than limits k 7 file at)
-
-  pub two_earlier : (f : ℕ → ℕ → formula.Node Atom) (kind : ℕ)
-      → ((a b : ℕ) → ◌≡◌ {A = Node} (record { kind = kind; left = a; right = b }) (node_of (f a b))) → (g : Got Node)
-      → g ≡ two_operands kind k file at → g ≡ mapped node_of (binary limits f k file at)
-  two_earlier f kind h g e = e ∙ two f kind h (less_than limits k 7 file at) (λ n. less_than limits k 7 file n)
-
 module _ (kind k : ℕ) (file : List ℕ) (at : ℕ) where
   pub two_first : (r : ℕ) → less_than limits k 7 file at ≡ fault r → two_operands kind k file at ≡ fault r
   two_first r e = rw e refl
@@ -57,10 +46,10 @@ module _ (kind k : ℕ) (file : List ℕ) (at : ℕ) where
   two_good a next b end e f = rw (e, f) refl
 
 module _ (W driven k : ℕ) (file : List ℕ) (at : ℕ) where
-  -- 13 and above are refused
-  pub unknown : (kind : ℕ) → 13 ≤ kind → operands limits W driven k kind file at ≡ fault 7
+  -- 7 and above are refused
+  pub unknown : (kind : ℕ) → 7 ≤ kind → operands limits W driven k kind file at ≡ fault 7
   unknown kind h =
-      let e : kind ≡ suc (suc (suc (suc (suc (suc (suc (suc (suc (suc (suc (suc (suc (kind - 13))))))))))))) = omega arith in
+      let e : kind ≡ suc (suc (suc (suc (suc (suc (suc (kind - 7))))))) = omega arith in
       ap (λ (j : ℕ). operands limits W driven k j file at) e
 
   pub node_stopped : (r : ℕ) → number limits file at ≡ fault r → node limits W driven k file at ≡ fault r

@@ -1,5 +1,5 @@
 // A node of the formula.
-ghost use Rattle.std.specs.Prelude.{◌≡◌, ℕ, ◌≤◌};
+ghost use Rattle.std.specs.Prelude.{◌≡◌, ◌≤◌};
 ghost use Rattle.meaning.specs.File.Grammar.{limits, named, operands, node};
 ghost use Rattle.cursor.specs.Answers.{got};
 ghost use Rattle.instrument.specs.Layout.{node_of};
@@ -73,21 +73,6 @@ fn binary(file: &[u8], from: Cursor, kind: u32, k: u32) -> NodeRead
     }
 }
 
-// Node k of a kind in "always" form (document 02, 1/14), with its operands: kinds 7 to 12 alone come here, the last arm is 12.
-fn always_operands(file: &[u8], from: Cursor, k: u32, kind: u32) -> NodeRead
-    requires { (7 ≤ kind) × (kind ≤ 12) }
-    ensures { (w driven : ℕ) → got_node result ≡ mapped node_of (operands limits w driven k kind file.now from.at) }
-{
-    match kind {
-        7 => binary(file, from, 7, k),
-        8 => binary(file, from, 8, k),
-        9 => unary(9, from.less_than(file, k, Refusal::Formula)),
-        10 => unary(10, from.less_than(file, k, Refusal::Formula)),
-        11 => unary(11, from.less_than(file, k, Refusal::Formula)),
-        _ => binary(file, from, 12, k),
-    }
-}
-
 // Node k of this kind, with its operands.
 fn operands(file: &[u8], from: Cursor, w: u32, driven: u32, k: u32, kind: Number) -> NodeRead
     requires { w ≤ limits.signals }
@@ -108,8 +93,7 @@ fn operands(file: &[u8], from: Cursor, w: u32, driven: u32, k: u32, kind: Number
         4 => unary(4, from.less_than(file, k, Refusal::Formula)),
         5 => unary(5, from.less_than(file, k, Refusal::Formula)),
         6 => binary(file, from, 6, k),
-        7..=12 => always_operands(file, from, k, kind as u32),
-        13.. => NodeRead::Unknown(Refusal::Formula),
+        7.. => NodeRead::Unknown(Refusal::Formula),
     }
 }
 

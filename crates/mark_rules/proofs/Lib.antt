@@ -2,6 +2,5 @@
 pub mod Tests
 pub mod Component
 pub mod FixedPoints
--- the rules as the code makes them, and that marks stay within the states
+-- the rules as the code makes them
 pub mod Rules
-pub mod Ranges

@@ -43,12 +43,9 @@ module _ (states inputs : ℕ) (outputs outs succ : List ℕ) where
       let t = step_table states inputs succ in
       record { top = true_mark states; atom = atom_mark; neg = not_mark; or = or_mark; ex = ex_mark t; eg = eg_mark t; eu = eu_mark t }
 
-  -- the marks of a node of this kind, from the marks of its operands; no known kind, no mark
-  abbrev pub kind_mark : ℕ → ℕ → Mark → Mark → Mark
-  kind_mark = kind_has no_mark mark_rules
-
+  -- the marks of a node, from the marks of its operands; no known kind, no mark
   abbrev pub rule_mark : Node → Mark → Mark → Mark
-  rule_mark node a b = kind_mark node.kind node.left a b
+  rule_mark node a b = kind_has no_mark mark_rules node.kind node.left a b
 
 -- the marks of an operand among those of all nodes so far; what is no operand may be past the last place
 abbrev pub operand_mark : List Mark → ℕ → Mark

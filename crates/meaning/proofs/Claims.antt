@@ -1,22 +1,21 @@
 -- What is proved of document 01, in the order of the demands: over its atoms (signals), what it compares (whole output words) and the classes
--- of its one root. The general theorems behind it are those of Demands, Marks/Partners and Classes/Described. Of document 02: the cases of 12/14, the spellings of 2/14 and
--- 1/14 and, last, 6/14.
-use mathlib.Core.Path.{◌≡◌, refl, subst, sym}
+-- of its one root. The general theorems behind it are those of Demands, Marks/Partners and Classes/Described. Of document 02: the cases of 12/14, the spellings of 2/14 and,
+-- last, 6/14.
+use mathlib.Core.Path.{◌≡◌, refl}
 use mathlib.Core.Logic.{◌↔◌}
 use mathlib.Core.List.{List}
 use lib.Dec.{T}
 use Prim.Native.Nat.{◌<◌, ◌≤◌, ℕ}
-use Rattle.meaning.specs.AllPaths.{Says}
 use Rattle.meaning.specs.Atoms.{Atom}
 use Rattle.meaning.specs.Classes.{ClassNames}
-use Rattle.meaning.specs.Combination.{State, Step, Truth, count, high, index}
+use Rattle.meaning.specs.Combination.{State, Truth, count, high, index}
 use Rattle.meaning.specs.File.Grammar.{Contents, instrument_of, read_file}
 use Rattle.meaning.specs.File.Parser.{found}
 use Rattle.meaning.specs.Formula.{Formula}
 use Rattle.meaning.specs.Instrument.{Accepted, Instrument, WellFormed, components, root_formula, root_node, table}
 use Rattle.meaning.specs.Marks.{Fail, Pass}
 use Rattle.meaning.specs.Merged.{MergedOf, MergedTruth, lowest_states, merged_count_of, merged_index, merged_sizes, merged_tables}
-use Rattle.meaning.specs.Nodes.{Beneath, formula_at, node_at}
+use Rattle.meaning.specs.Nodes.{Beneath, formula_at}
 use Rattle.meaning.specs.Reference.Merged.{lookup_b, merged_b}
 use Rattle.meaning.specs.Reference.Truth.{truth_b}
 use Rattle.meaning.specs.Reference.Verdict.{root_classes, verdict_b}
@@ -31,8 +30,7 @@ use Rattle.meaning.proofs.Demands.{merged_paths, merged_state_lem, no_clash, roo
 use Rattle.meaning.proofs.Demands.{verdict_right}
 use Rattle.meaning.proofs.File.Accepted.{file_accepted}
 use Rattle.meaning.proofs.File.Formulas.{Under}
-use Rattle.meaning.proofs.File.Nodes.{beneath_under, formula_at_lem}
-use Rattle.meaning.proofs.Meaning.AllPaths.{node_says}
+use Rattle.meaning.proofs.File.Nodes.{beneath_under}
 use Rattle.meaning.proofs.Marks.Laws.{Fits}
 use Rattle.meaning.proofs.Marks.Atoms.{value_local, view_fit}
 -- DEMAND 3, marks beside partners: marks-beside by the meaning, computed-beside of what is computed
@@ -57,10 +55,6 @@ pub use Rattle.meaning.proofs.WideCases.{wide}
 pub use Rattle.meaning.proofs.File.Filled.{read_filled}
 pub use Rattle.meaning.proofs.File.Spelling.{says_filled, follows, stay_filled, same_filled, same_said}
 pub use Rattle.meaning.proofs.StayCases.{stays}
--- 1/14: the short spelling gets the answers of the long one at the root, and so does every other spelling of the same formula
-pub use Rattle.meaning.proofs.Spelling.{SameAtRoot, same_root, long_root, long_plain, long_accepted, short_is_long}
-pub use Rattle.meaning.proofs.Meaning.AllPaths.{and_means, implies_means, ax_means, af_means, ag_means, au_means}
-pub use Rattle.meaning.proofs.AlwaysCases.{always, long_many}
 -- what the guard and the promise of no dead end are for
 pub use Rattle.meaning.proofs.Counterexamples.{unguarded, guarded, dead_end}
 
@@ -97,14 +91,6 @@ module _ (I : Instrument) (accepted : Accepted I) where
   -- DEMAND 2: the bit computed for node k at the index of a combined state is its truth by paths there
   pub full_01 : (k : ℕ) (s : State n S) → T (truth_b n S W (value_of I) (node k) (index n (λ i. (S i).states) s.at)) ↔ Truth n S (value_of I) (node k) s
   full_01 k = full_way n S W good (value_of I) (value_local I) (node k)
-
-  -- 1/14: what each kind of node says by infinite paths, of its operands
-  pub node_says_01 : (k : ℕ) (s : State n S)
-      → Truth n S (value_of I) (node k) s
-      ↔ Says (Step n S) (λ a s. T (value_of I a s.at)) (λ i. Truth n S (value_of I) (node i)) (node_at I.nodes k) s
-  node_says_01 k s =
-      subst (λ φ. Truth n S (value_of I) φ s ↔ Says (Step n S) (λ a s. T (value_of I a s.at)) (λ i. Truth n S (value_of I) (node i)) (node_at I.nodes k) s)
-      (sym (formula_at_lem I.nodes accepted.earlier k)) (node_says n S W good (value_of I) (value_local I) (node_at I.nodes k) node s)
 
   pub full_index_01 : (x : ℕ) → x < count n (λ i. (S i).states) → (s : State n S) × (index n (λ i. (S i).states) s.at ≡ x)
   full_index_01 = full_onto n S W good

@@ -2,7 +2,6 @@
 pub mod Tables
 pub mod Formulas
 pub mod Nodes
-pub mod Spelled
 pub mod Promise
 -- The grammar: lists, what parsers promise, accepted files, and the limit of what is read.
 pub mod Lists

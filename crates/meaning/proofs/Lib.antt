@@ -8,12 +8,10 @@ pub mod Merged
 pub mod Roots
 pub mod Verdict
 pub mod Demands
-pub mod Spelling
 pub mod Cases
 pub mod WideCases
 pub mod StayCases
 pub mod LampCases
-pub mod AlwaysCases
 pub mod Lamps
 pub mod Counterexamples
 pub mod Claims

@@ -7,4 +7,3 @@ pub mod TablePaths
 pub mod Index
 pub mod OnTable
 pub mod Full
-pub mod AllPaths

@@ -4,8 +4,7 @@ use mathlib.Core.Logic.{◌⊎◌, inl, inr}
 use Prim.Native.Nat.{ℕ}
 use Rattle.meaning.specs.Formula as formula
 use Rattle.meaning.specs.Formula.{Formula}
-use Rattle.meaning.specs.Nodes.{Node, Operand, af, ag, and, atom, au, ax, eg, eu, ex, formula_of, formula_with, implies, neg, or, top}
-use Rattle.meaning.specs.Nodes.{of_af, of_ag, of_and_l, of_and_r, of_au_l, of_au_r, of_ax, of_eg, of_eu_l, of_eu_r, of_ex, of_implies_l, of_implies_r, of_neg, of_or_l, of_or_r}
+use Rattle.meaning.specs.Nodes.{Node, Operand, atom, eg, eu, ex, formula_of, formula_with, neg, of_eg, of_eu_l, of_eu_r, of_ex, of_neg, of_or_l, of_or_r, or, top}
 use Rattle.meaning.specs.Reference.Rules.{Leaf, Rules, by_rules, named, node_has, on_leaves, operand}
 
 -- operand i stands in what a node's formula is made of
@@ -34,18 +33,6 @@ operands_stand P (ex j) h i s = rw s (h j of_ex)
 operands_stand P (eg j) h i s = rw s (h j of_eg)
 operands_stand P (eu j k) h i (inl s) = rw s (h j of_eu_l)
 operands_stand P (eu j k) h i (inr s) = rw s (h k of_eu_r)
-operands_stand P (and j k) h i (inl s) = rw s (h j of_and_l)
-operands_stand P (and j k) h i (inr s) = rw s (h k of_and_r)
-operands_stand P (implies j k) h i (inl s) = rw s (h j of_implies_l)
-operands_stand P (implies j k) h i (inr s) = rw s (h k of_implies_r)
-operands_stand P (ax j) h i s = rw s (h j of_ax)
-operands_stand P (af j) h i s = rw s (h j of_af)
-operands_stand P (ag j) h i (inl s) = absurd s
-operands_stand P (ag j) h i (inr s) = rw s (h j of_ag)
-operands_stand P (au j k) h i (inl (inl s)) = rw s (h k of_au_r)
-operands_stand P (au j k) h i (inl (inr (inl s))) = rw s (h j of_au_l)
-operands_stand P (au j k) h i (inl (inr (inr s))) = rw s (h k of_au_r)
-operands_stand P (au j k) h i (inr s) = rw s (h k of_au_r)
 
 -- Q holds between what two sets of rules give, at each constructor
 pub record Keeps {ℓ k} {A : Type 0} {X : Type ℓ} {Y : Type k} (Q : X → Y → Type 0) (R : Rules A X) (S : Rules A Y) : Type (ℓ ⊔ k) where
@@ -100,12 +87,6 @@ node_formula (or i j) f = refl
 node_formula (ex i) f = refl
 node_formula (eg i) f = refl
 node_formula (eu i j) f = refl
-node_formula (and i j) f = refl
-node_formula (implies i j) f = refl
-node_formula (ax i) f = refl
-node_formula (af i) f = refl
-node_formula (ag i) f = refl
-node_formula (au i j) f = refl
 
 -- a value of formulas that goes by rules: what a node has is the value of its formula
 pub record Follows {A X : Type 0} (R : Rules A X) (value : Formula A → X) : Type 0 where

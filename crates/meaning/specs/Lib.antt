@@ -3,7 +3,6 @@ pub mod Tests
 -- The instrument file
 pub mod Table
 pub mod Formula
-pub mod Derived
 pub mod Atoms
 pub mod Nodes
 pub mod Instrument
@@ -11,7 +10,6 @@ pub mod File
 -- Meaning
 pub mod Paths
 pub mod Combination
-pub mod AllPaths
 -- Marks
 pub mod View
 pub mod Seen
@@ -27,13 +25,11 @@ pub mod Verdict
 pub mod Cases
 -- The same as functions that compute; what they compute is proved to be the above.
 pub mod Reference
--- Document 02: the long spelling of a formula; a list of roots
-pub mod Spelled
+-- Document 02: a list of roots
 pub mod Roots
 -- Cases of document 02
 pub mod WideCases
 pub mod StayCases
 pub mod LampCases
-pub mod AlwaysCases
 -- The steps of one component as the engines are lent them
 pub mod StepWords

@@ -1,7 +1,6 @@
 -- A formula as the file lists it: nodes whose operands are numbers of earlier nodes (document 01, The instrument file).
 use Rattle.std.specs.Prelude.{List, get_or, ℕ, zero, suc, ◌<◌}
 use Rattle.meaning.specs.Formula.{Formula}
-use Rattle.meaning.specs.Derived as derived
 
 pub data Node (A : Type 0) : Type 0 where
   top : Node A
@@ -11,12 +10,6 @@ pub data Node (A : Type 0) : Type 0 where
   ex : ℕ → Node A
   eg : ℕ → Node A
   eu : ℕ → ℕ → Node A
-  and : ℕ → ℕ → Node A
-  implies : ℕ → ℕ → Node A
-  ax : ℕ → Node A
-  af : ℕ → Node A
-  ag : ℕ → Node A
-  au : ℕ → ℕ → Node A
 
 -- node k is an operand
 pub data Operand {A : Type 0} (k : ℕ) : Node A → Type 0 where
@@ -27,15 +20,6 @@ pub data Operand {A : Type 0} (k : ℕ) : Node A → Type 0 where
   of_eg : Operand k (eg k)
   of_eu_l : {j : ℕ} → Operand k (eu k j)
   of_eu_r : {j : ℕ} → Operand k (eu j k)
-  of_and_l : {j : ℕ} → Operand k (and k j)
-  of_and_r : {j : ℕ} → Operand k (and j k)
-  of_implies_l : {j : ℕ} → Operand k (implies k j)
-  of_implies_r : {j : ℕ} → Operand k (implies j k)
-  of_ax : Operand k (ax k)
-  of_af : Operand k (af k)
-  of_ag : Operand k (ag k)
-  of_au_l : {j : ℕ} → Operand k (au k j)
-  of_au_r : {j : ℕ} → Operand k (au j k)
 
 -- the formula of a node, where g and f give the formulas of its atom and of its operands
 abbrev pub formula_with : {A B : Type 0} → (A → Formula B) → Node A → (ℕ → Formula B) → Formula B
@@ -46,12 +30,6 @@ formula_with g (or i j) f = Formula.or (f i) (f j)
 formula_with g (ex i) f = Formula.ex (f i)
 formula_with g (eg i) f = Formula.eg (f i)
 formula_with g (eu i j) f = Formula.eu (f i) (f j)
-formula_with g (and i j) f = derived.and (f i) (f j)
-formula_with g (implies i j) f = derived.implies (f i) (f j)
-formula_with g (ax i) f = derived.ax (f i)
-formula_with g (af i) f = derived.af (f i)
-formula_with g (ag i) f = derived.ag (f i)
-formula_with g (au i j) f = derived.au (f i) (f j)
 
 -- the formula of a node, from its operands' formulas
 abbrev pub formula_of : {A : Type 0} → Node A → (ℕ → Formula A) → Formula A

@@ -10,4 +10,3 @@ pub mod Merged
 pub mod Verdict
 pub mod Answers
 pub mod Rules
-pub mod Guards

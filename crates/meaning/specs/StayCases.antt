@@ -67,6 +67,6 @@ stay_cases =
     ∷ row (two ++ (0 ∷ [])) (refused 1)
     ∷ row (two ++ (128 ∷ 0 ∷ [])) (refused 2)
     -- all sets empty, then an unknown kind, and a file that is good
-    ∷ row (two ++ (0 ∷ 0 ∷ 1 ∷ 13 ∷ [])) (refused 7)
+    ∷ row (two ++ (0 ∷ 0 ∷ 1 ∷ 7 ∷ [])) (refused 7)
     ∷ row (two ++ (0 ∷ 0 ∷ 1 ∷ 0 ∷ 0 ∷ [])) (classes 0 (0 ∷ 0 ∷ []))
     ∷ []

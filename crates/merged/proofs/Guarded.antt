@@ -1,10 +1,11 @@
--- Truth of all nodes on tables that agree with the merged ones, where the classes are barred that are FAIL of the EG inside a node, is document
--- 01's truth in the merged combination: the guard shuts out just those.
-use mathlib.Core.Path.{◌≡◌, refl, sym, ap, ◌∙◌, fun_ext}
-use mathlib.Core.Option.{some}
+-- Truth of all nodes on tables that agree with the merged ones, where the classes are barred that are FAIL of an EG node, is document 01's
+-- truth in the merged combination: the guard shuts out just those.
+use mathlib.Core.Path.{◌≡◌, refl, sym, subst, ap, ◌∙◌, fun_ext}
 use mathlib.Core.Bool.{Bool, true, false, not, ◌&&◌, ◌||◌}
 use mathlib.Core.List.{List}
-use lib.ListN.{length}
+use lib.ListN.{length, get_or-eq_default}
+use native.Mathlib.Decide.{dec_lt}
+use native.Mathlib.Omega.{arith}
 use Prim.Native.Nat.{ℕ, zero, suc, ◌<◌}
 use Rattle.words.specs.Sets.{has}
 use Rattle.words.proofs.Built.{has_built, built_same}
@@ -12,9 +13,7 @@ use Rattle.words.specs.Sets.{built}
 use Rattle.meaning.specs.Atoms.{Atom, on_signal}
 use Rattle.meaning.specs.Tests.{any_below}
 use Rattle.meaning.specs.Table.{Table}
-use Rattle.meaning.specs.Formula.{Formula}
-use Rattle.meaning.specs.Nodes.{Node, Earlier, node_at, formula_at}
-use Rattle.meaning.specs.Reference.Guards.{eg_inside}
+use Rattle.meaning.specs.Nodes.{Node, top, atom, neg, or, ex, eg, eu, Earlier, node_at, formula_at}
 use Rattle.meaning.specs.Seen.{value}
 use Rattle.meaning.specs.View.{View}
 use Rattle.meaning.specs.Classes.{class_count_of, lowest_of}
@@ -41,12 +40,29 @@ none_all (suc n) f = go (f n) (none_all n f)
     go true h = refl
     go false h = h
 
-pub has_fail_classes : (t : Table) (κ : View Atom) (cls : ℕ → ℕ) (φ : Formula Atom) (c : ℕ) → c < class_count_of t cls
-    → has (fail_classes t κ cls φ) c ≡ fail_b t κ φ (lowest_of t cls c)
+pub has_fail_classes : (t : Table) (κ : View Atom) (cls : ℕ → ℕ) (nodes : List (Node Atom)) (k c : ℕ) → c < class_count_of t cls
+    → has (fail_classes t κ cls (formula_at nodes k)) c ≡ fail_b t κ (formula_at nodes k) (lowest_of t cls c)
 unfolding fail_classes
-has_fail_classes t κ cls φ c l = has_built (class_count_of t cls) (λ c. fail_b t κ φ (lowest_of t cls c)) c l
+has_fail_classes t κ cls nodes k c l = has_built (class_count_of t cls) (λ c. fail_b t κ (formula_at nodes k) (lowest_of t cls c)) c l
 
-module _ (n : ℕ) (S : ℕ → Table) (κ : ℕ → View Atom) (cls : ℕ → ℕ → ℕ) (some_class : (i : ℕ) → i < n → 0 < class_count_of (S i) (cls i)) where
+-- an EG node is one of the listed nodes
+eg_listed : (nodes : List (Node Atom)) (k i : ℕ) → node_at nodes k ≡ eg i → k < length nodes
+eg_listed nodes k i e =
+    elim (dec_lt k (length nodes)) [
+      | yes l ↦ l
+      | no l ↦ absurd (subst IsTop (sym (get_or-eq_default nodes top {n = k} (omega arith)) ∙ e) tt)
+    ]
+  where
+    IsTop : Node Atom → Type 0
+    IsTop top = Unit {0}
+    IsTop (atom w) = ⊥
+    IsTop (neg i) = ⊥
+    IsTop (or i j) = ⊥
+    IsTop (ex i) = ⊥
+    IsTop (eg i) = ⊥
+    IsTop (eu i j) = ⊥
+
+module _ (n : ℕ) (S : ℕ → Table) (κ : ℕ → View Atom) (cls : ℕ → ℕ → ℕ) (some : (i : ℕ) → i < n → 0 < class_count_of (S i) (cls i)) where
   abbrev M : ℕ → Table
   M = merged_tables n S cls
 
@@ -60,25 +76,25 @@ module _ (n : ℕ) (S : ℕ → Table) (κ : ℕ → View Atom) (cls : ℕ → �
   module _
       (nodes : List (Node Atom))
       (barred : ℕ → ℕ → ℕ)
-      (bars : (i k : ℕ) → i < n → (φ : Formula Atom) → eg_inside (node_at nodes k) (formula_at nodes) ≡ some φ
-      → barred i k ≡ fail_classes (S i) (κ i) (cls i) φ)
+      (bars : (i k : ℕ) → i < n → k < length nodes → barred i k ≡ fail_classes (S i) (κ i) (cls i) (formula_at nodes k))
     where
-      -- the guard of the EG inside a node is that no class is barred there
-      pub guard_barred : (k : ℕ) (φ : Formula Atom) → eg_inside (node_at nodes k) (formula_at nodes) ≡ some φ → (x : ℕ)
-          → guard_b n S cls κ (value n S) φ x ≡ not (barred_at n r barred k x)
-      guard_barred k φ e x =
-          none_all n (λ i. fail_b (S i) (κ i) φ (lowest_of (S i) (cls i) (part r i x)))
-          ∙ ap not (any_same n (λ i. fail_b (S i) (κ i) φ (lowest_of (S i) (cls i) (part r i x)))
+      -- the guard of a node is that no class is barred there
+      pub guard_barred : (k x : ℕ) → k < length nodes
+          → guard_b n S cls κ (value n S) (formula_at nodes k) x ≡ not (barred_at n r barred k x)
+      guard_barred k x l =
+          none_all n (λ i. fail_b (S i) (κ i) (formula_at nodes k) (lowest_of (S i) (cls i) (part r i x)))
+          ∙ ap not (any_same n (λ i. fail_b (S i) (κ i) (formula_at nodes k) (lowest_of (S i) (cls i) (part r i x)))
           (λ i. has (barred i k) (part r i x)) (λ i h.
-          sym (ap (λ w. has w (part r i x)) (bars i k h φ e)
-          ∙ has_fail_classes (S i) (κ i) (cls i) φ (part r i x) (part_lt r i (some_class i h) x))))
+          sym (ap (λ w. has w (part r i x)) (bars i k h l)
+          ∙ has_fail_classes (S i) (κ i) (cls i) nodes k (part r i x) (part_lt r i (some i h) x))))
 
       module _ (earlier : Earlier nodes) (W : ℕ) (U : ℕ → Table) (agreeing : (i : ℕ) → i < n → Agreeing (U i) (M i)) where
         pub combined_merged : (k x : ℕ) → x < merged_count_of n S cls
             → combined_b n U W barred nodes k x ≡ merged_b n S cls κ (value n S) W (formula_at nodes k) x
         combined_merged k x l =
-            combined_same n U M agreeing some_class W barred nodes k x l
-            ∙ combined_guarded n M W barred nodes earlier (guard_b n S cls κ (value n S)) guard_barred k x
+            combined_same n U M agreeing some W barred nodes k x l
+            ∙ combined_guarded n M W barred nodes earlier (guard_b n S cls κ (value n S))
+            (λ k i e x. guard_barred k x (eg_listed nodes k i e)) k x
             ∙ ap (λ val. guarded_b n M W val (guard_b n S cls κ (value n S)) (formula_at nodes k) x) (fun_ext (λ a. fun_ext (λ c. value_merged a c)))
 
         pub word_merged_lem : (x : ℕ) → x < merged_count_of n S cls

@@ -3,7 +3,6 @@ pub mod Agreeing
 pub mod Guarded
 pub mod Words
 -- The classes that are barred, and all parts together
-pub mod Shut
 pub mod Barring
 pub mod BarRows
 pub mod Whole

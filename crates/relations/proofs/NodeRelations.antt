@@ -37,8 +37,7 @@ use Rattle.classes.specs.Related.{related_all, related_both}
 use Rattle.classes.proofs.Rows.{rows_same}
 use Rattle.classes.proofs.Formulas.{top_rows, or_rows, ex_rows, eg_rows, eu_rows}
 use Rattle.meaning.specs.File.Grammar.{most_states}
-use Rattle.node_relations.specs.Sorted.{formula_relation, signal_relation, Sorted, sorted, ex_sorted, fixed_sorted, relation_rules, kind_sorted}
-use Rattle.relations.specs.Relations.{Comparing, no_relation, place_of}
+use Rattle.relations.specs.Relations.{formula_relation, signal_relation, Comparing, no_relation, place_of, Sorted, sorted, ex_sorted, fixed_sorted, relation_rules, kind_sorted}
 use Rattle.relations.specs.Relations.{Marked, needed_relation, list_relations, RelatedNodes, Relating}
 
 -- the place of an operand: its own where it is a node's number, or else 0

@@ -2,9 +2,7 @@
 use mathlib.Core.Path.{◌≡◌, refl, sym, ap, ap₂, ◌∙◌}
 use mathlib.Core.Bool.{Bool, true, false, ◌&&◌}
 use mathlib.Core.List.{List, [], ◌∷◌, map}
-use lib.ListN.{length, get_or, take, get_or-eq_default}
-use lib.Pow.{pow_pos}
-use native.Mathlib.Decide.{dec_lt}
+use lib.ListN.{length, get_or, take}
 use native.Mathlib.Omega.{arith}
 use Prim.Native.Nat.{ℕ, zero, suc, ◌+◌, ◌≤◌, ◌<◌}
 use Rattle.meaning.specs.Tests.{All}
@@ -31,15 +29,13 @@ use Rattle.instrument.proofs.Rows.{filled_at}
 use Rattle.mark_rules.specs.declared.Mark.{Mark}
 use Rattle.marks.specs.Formulas.{formula_mark}
 use Rattle.marks.specs.NodeMarks.{no_mark, list_marks}
-use Rattle.marks.proofs.Formulas.{formula_range}
 use Rattle.subformulas.specs.Under.{Closed}
 use Rattle.subformulas.proofs.Members.{root_under, under_closed}
 use Rattle.subformulas.proofs.Root.{good_each}
 use Rattle.classes.specs.Rows.{rel, rows}
 use Rattle.classes.specs.Related.{related_all, related_both}
 use Rattle.classes.proofs.Rows.{rel_rows_lem, rows_same}
-use Rattle.node_relations.specs.Sorted.{formula_relation}
-use Rattle.relations.specs.Relations.{Marked, MarkedComponent, Needed, RangedMarks, list_relations, related_by, roots_relation}
+use Rattle.relations.specs.Relations.{Marked, Needed, formula_relation, list_relations, related_by, roots_relation}
 use Rattle.relations.proofs.NodeRelations.{relation_at_lem}
 
 -- the marks of a table's nodes, listed, are those of its nodes
@@ -54,31 +50,6 @@ marked_list t κ ns short =
   where
     mark : ℕ → Mark
     mark k = formula_mark t κ (formula_at ns k)
-
--- and of its states alone
-pub ranged_list : (t : Table) (κ : View Atom) (ns : List (Node Atom)) → length ns ≤ 24 → RangedMarks t.states (list_marks t κ ns)
-unfolding list_marks
-ranged_list t κ ns short =
-    record {
-      each =
-          λ k l. elim (dec_lt k (length ns)) [
-            | yes h ↦ rw ((marked_list t κ ns short).each k h) (formula_range t κ (formula_at ns k))
-            | no h ↦ rw (none k (omega arith)) (record { pass = pow_pos t.states; fail = pow_pos t.states })
-          ];
-    }
-  where
-    mark : ℕ → Mark
-    mark k = formula_mark t κ (formula_at ns k)
-
-    none : (k : ℕ) → length ns ≤ k → get_or (list_marks t κ ns) k no_mark ≡ no_mark
-    none k h =
-        filled_at no_mark 24 (list_below (length ns) mark) (omega (arith, list_length (length ns) mark)) k
-        ∙ get_or-eq_default (list_below (length ns) mark) no_mark (omega (arith, list_length (length ns) mark))
-
-pub marks_ranged : {t : Instrument} {c : ℕ} {marks : List Mark} {read : ℕ} {k : Contents} → MarkedComponent t c marks read k
-    → (states : ℕ) → states ≡ (table (instrument_of k) c).states → RangedMarks states marks
-marks_ranged {c = c} {k = k} m states e =
-    rw (e, m.marked) (ranged_list (table (instrument_of k) c) (view_of (instrument_of k) c) k.nodes m.describes.promised.node_count.1)
 
 -- the relations of a component's table from those of the table of its parts
 pub parts_related : (p t : Table) → p ≡ t → (κ : View Atom) (ns : List (Node Atom)) → length ns ≤ 24 → (marks : List Mark) (needed : ℕ) (r : List (List ℕ))

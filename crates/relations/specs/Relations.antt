@@ -1,5 +1,5 @@
--- The relation of a component's states at the needed nodes of a formula, as rows of words (document 01, Classes): the nodes one
--- after the other. What is compared of the outputs is a list of its own.
+-- The relation of a component's states at the needed nodes of a formula, as rows of words (document 01, Classes): the rule that a node's kind
+-- picks, and the nodes one after the other. What is compared of the outputs is a list of its own.
 use Rattle.std.specs.Prelude.{◌≡◌, cond, List, [], ◌∷◌, ltb, length, get_or, replicate, ℕ, ◌≤◌, ◌<◌}
 use Rattle.std.proofs.lemmas.List.Edits.{sets}
 use Rattle.words.specs.Sets.{has}
@@ -23,7 +23,6 @@ use Rattle.instrument.specs.declared.Instrument.{Instrument}
 use Rattle.instrument.specs.ByKind.{kind_has}
 use Rattle.instrument.specs.Described.{Describes}
 use Rattle.mark_rules.specs.declared.Mark.{Mark}
-use Rattle.mark_rules.specs.Rules.{InRange}
 use Rattle.marks.specs.Formulas.{formula_mark, Sees}
 use Rattle.marks.specs.NodeMarks.{no_mark, mark_rules, Listing, list_marks}
 use Rattle.marks.specs.Written.{Written}
@@ -32,7 +31,15 @@ use Rattle.instrument.specs.Roots.{GoodRoots, listed_roots}
 use Rattle.subformulas.specs.Under.{Closed, under_roots}
 use Rattle.classes.specs.Rows.{rel, rows}
 use Rattle.compared.specs.Compared.{ReadSignals}
-use Rattle.node_relations.specs.Sorted.{formula_relation}
+use Rattle.classes.specs.Related.{related_all, related_both, related_ex, related_fixed}
+
+-- the relation of a formula on a table
+abbrev pub formula_relation : {A : Type 0} → Table → View A → Formula A → List ℕ
+formula_relation t κ φ = rows t.states (rel_b t κ φ)
+
+-- own and foreign signals: the relation looks at the outputs of a table alone
+unfoldable pub signal_relation : ℕ → List ℕ → List ℕ → ℕ → List ℕ
+signal_relation states outputs outs w = let t = from_words states [] outputs outs [] in formula_relation t (atoms t.out t) (atom (on_signal w))
 
 -- a view that compares the listed words of a component's n states
 abbrev pub Comparing : ℕ → List ℕ → View Atom → Type 0
@@ -46,13 +53,48 @@ no_relation = replicate limits.states 0
 abbrev pub place_of : ℕ → ℕ
 place_of i = cond (ltb i limits.nodes) i 0
 
+-- what a formula has on a component: its marks and its relation, which looks at marks
+pub record Sorted : Type 0 where
+  pub mark : Mark
+  pub relation : List ℕ
+
+abbrev pub sorted : Mark → List ℕ → Sorted
+sorted m r = record { mark = m; relation = r }
+
+-- the rules of the constructors
+module _ (states inputs : ℕ) (outputs outs succ compared : List ℕ) where
+  abbrev marked : Rules Atom Mark
+  marked = mark_rules states inputs outputs outs succ
+
+  abbrev atom_relation : Atom → List ℕ
+  atom_relation (on_signal w) = signal_relation states outputs outs w
+
+  -- EX, and EG and EU, whose marks are m, from the marks of the first operand and what the operands relate
+  abbrev pub ex_sorted : Mark → Mark → List ℕ → Sorted
+  ex_sorted m under r = sorted m (related_ex states inputs succ compared r m.pass m.fail under.fail)
+
+  abbrev pub fixed_sorted : Mark → List ℕ → Sorted
+  fixed_sorted m r = sorted m (related_fixed states inputs succ compared r m.pass m.fail)
+
+  abbrev pub relation_rules : Rules Atom Sorted
+  relation_rules =
+      record {
+        top = sorted marked.top (related_all states);
+        atom = λ a. sorted (marked.atom a) (atom_relation a);
+        neg = λ x. sorted (marked.neg x.mark) x.relation;
+        or = λ x y. sorted (marked.or x.mark y.mark) (related_both states x.relation y.relation);
+        ex = λ x. ex_sorted (marked.ex x.mark) x.mark x.relation;
+        eg = λ x. fixed_sorted (marked.eg x.mark) x.relation;
+        eu = λ x y. fixed_sorted (marked.eu x.mark y.mark) (related_both states x.relation y.relation);
+      }
+
+  -- what a node of this kind has, from what its operands have; no known kind: no mark, and all states are related
+  abbrev pub kind_sorted : ℕ → ℕ → Sorted → Sorted → Sorted
+  kind_sorted = kind_has (sorted no_mark (related_all states)) relation_rules
+
 -- marks that are those of a formula's nodes
 pub record Marked (t : Table) (κ : View Atom) (ns : List (formula.Node Atom)) (marks : List Mark) : Type 0 where
   pub each : (k : ℕ) → k < length ns → get_or marks k no_mark ≡ formula_mark t κ (formula_at ns k)
-
--- marks of a component's states alone
-pub record RangedMarks (states : ℕ) (marks : List Mark) : Type 0 where
-  pub each : (k : ℕ) → k < limits.nodes → InRange states (get_or marks k no_mark)
 
 -- the relation at node k of a formula if that is needed, none if it is not; needed nodes are a set, bit k for node k
 abbrev pub needed_relation : Table → View Atom → List (formula.Node Atom) → ℕ → ℕ → List ℕ

@@ -1,5 +1,5 @@
 // The nodes that roots need: themselves and the nodes under them, as a set, bit k for node k. specs/Under.antt defines the result.
-ghost use Rattle.std.specs.Prelude.{◌≡◌, List, ◌≤◌};
+ghost use Rattle.std.specs.Prelude.{◌≡◌, List};
 ghost use Rattle.meaning.specs.Atoms.{Atom};
 ghost use Rattle.meaning.specs.Nodes as formula;
 ghost use Rattle.meaning.specs.File.Grammar.{limits, with_all};
@@ -9,22 +9,6 @@ ghost use Rattle.marks.specs.NodeMarks.{Listing};
 ghost use Rattle.subformulas.specs.Under.{under_roots, with_operands};
 
 use instrument::{Instrument, Node, Roots};
-
-// A set of nodes and the operands of a node in "always" form besides (document 02, 1/14): kinds 7 to 12 alone come here, the last arm is 12.
-fn always_operands(set: u32, node: Node) -> u32
-    requires { Operands node × (7 ≤ node.kind) × (node.kind ≤ 12) }
-    ensures { result ≡ with_operands set node }
-{
-    let kind = node.kind;
-    match kind {
-        7 => words::insert(words::insert(set, node.left), node.right),
-        8 => words::insert(words::insert(set, node.left), node.right),
-        9 => words::insert(set, node.left),
-        10 => words::insert(set, node.left),
-        11 => words::insert(set, node.left),
-        _ => words::insert(words::insert(set, node.left), node.right),
-    }
-}
 
 // A set of nodes and the operands of a node besides: its kind says which it has.
 fn with_operands(set: u32, node: Node) -> u32
@@ -40,8 +24,7 @@ fn with_operands(set: u32, node: Node) -> u32
         4 => words::insert(set, node.left),
         5 => words::insert(set, node.left),
         6 => words::insert(words::insert(set, node.left), node.right),
-        7..=12 => always_operands(set, node),
-        13.. => set,
+        7.. => set,
     }
 }
 

@@ -4,7 +4,6 @@ use crate::combination;
 use crate::counts::Counts;
 use crate::prng::Prng;
 use crate::queries::Queries;
-use crate::refusal::Refusal;
 
 /// Up to so many combined states, each is looked up; else so many are drawn.
 const LOOKED_UP: usize = 500;
@@ -31,54 +30,6 @@ pub fn different(
     if let Some((question, _)) = same.iter().find(|(_, same)| !same) {
         return Some(question.to_string());
     }
-    different_lookup(a, b, files, prng, counts)
-}
-
-/// The same where the files have the same tables and starts, and formulas that only
-/// need to agree at the root.
-pub fn different_at_root(
-    a: &Queries,
-    b: &Queries,
-    files: &str,
-    prng: &mut Prng,
-    counts: &mut Counts,
-) -> Option<String> {
-    let same = [
-        ("full at the root", root_bits(a.full_bits()) == root_bits(b.full_bits())),
-        ("marks of the root", at_root(&a.bench.marks) == at_root(&b.bench.marks)),
-        ("classes", a.classes() == b.classes()),
-        (
-            "merged at the root",
-            root_bits(a.bench.merged_bits.clone()) == root_bits(b.bench.merged_bits.clone()),
-        ),
-        ("listing", a.listing() == b.listing()),
-        ("verdict", a.verdict() == b.verdict()),
-        ("the relation at the root", at_root(&a.bench.relations) == at_root(&b.bench.relations)),
-        ("merged tables", a.bench.merged_tables == b.bench.merged_tables),
-    ];
-    if let Some((question, _)) = same.iter().find(|(_, same)| !same) {
-        return Some(question.to_string());
-    }
-    different_lookup(a, b, files, prng, counts)
-}
-
-/// For each component, what it has at the root.
-fn at_root<T>(of_components: &[Vec<T>]) -> Vec<Option<&T>> {
-    of_components.iter().map(|of_nodes| of_nodes.last()).collect()
-}
-
-/// The root's bit of every word.
-fn root_bits(bits: Result<Vec<Vec<bool>>, Refusal>) -> Result<Vec<Option<bool>>, Refusal> {
-    Ok(bits?.iter().map(|bits| bits.last().copied()).collect())
-}
-
-fn different_lookup(
-    a: &Queries,
-    b: &Queries,
-    files: &str,
-    prng: &mut Prng,
-    counts: &mut Counts,
-) -> Option<String> {
     let asked = asked_states(a, prng);
     counts.add(&format!("lookups of files {files}"), asked.len());
     let other = asked.into_iter().find(|&states| a.lookup(states) != b.lookup(states));

@@ -7,13 +7,14 @@ use super::rules::{no_assignment_without, simple_marks_right, Rule};
 use super::{Checked, Violation};
 use crate::counts::Counts;
 use crate::instrument::{Node, Table};
+use crate::marks::Marks;
 use crate::relation::Relation;
 use crate::word::{bit, power};
 
 /// The most states of a table whose sets of states are gone through.
-pub const SET_STATES: usize = 6;
+const SET_STATES: usize = 6;
 /// The most states of a table whose relations are gone through.
-pub const RELATION_STATES: usize = 3;
+const RELATION_STATES: usize = 3;
 
 pub fn check(checked: &Checked, counts: &mut Counts) -> Result<(), Violation> {
     for (c, table) in checked.instrument.tables.iter().enumerate() {
@@ -29,7 +30,7 @@ pub fn check(checked: &Checked, counts: &mut Counts) -> Result<(), Violation> {
 }
 
 /// Every set of the given number of states.
-pub fn all_sets(states: usize) -> impl Iterator<Item = Vec<bool>> {
+fn all_sets(states: usize) -> impl Iterator<Item = Vec<bool>> {
     (0..power(states)).map(move |number| (0..states).map(|s| bit(number, s)).collect())
 }
 
@@ -45,11 +46,11 @@ fn check_pass(checked: &Checked, c: usize, k: usize, counts: &mut Counts) -> Res
     let pass = &marks[k].pass;
     let extreme = match checked.instrument.nodes[k] {
         Node::Eg(a) => {
-            let kind = |set: &[bool]| is_eg_set(table, &marks[a].pass, set);
+            let kind = |set: &[bool]| is_eg_set(table, &marks[a], set);
             kind(pass) && all_sets(table.states()).all(|set| !kind(&set) || inside(&set, pass))
         }
         Node::Eu(a, b) => {
-            let kind = |set: &[bool]| is_eu_set(table, &marks[a].pass, &marks[b].pass, set);
+            let kind = |set: &[bool]| is_eu_set(table, &marks[a], &marks[b], set);
             kind(pass) && all_sets(table.states()).all(|set| !kind(&set) || inside(pass, &set))
         }
         _ => return Ok(()),
@@ -61,16 +62,17 @@ fn check_pass(checked: &Checked, c: usize, k: usize, counts: &mut Counts) -> Res
     Ok(())
 }
 
-/// Inside the marked states of the operand, on every assignment a successor in the set.
-pub fn is_eg_set(table: &Table, operand: &[bool], set: &[bool]) -> bool {
+/// Inside PASS of the operand, on every assignment a successor in the set.
+fn is_eg_set(table: &Table, operand: &Marks, set: &[bool]) -> bool {
     let stays = |s: usize| no_assignment_without(table, s, set);
-    (0..set.len()).all(|s| !set[s] || (operand[s] && stays(s)))
+    (0..set.len()).all(|s| !set[s] || (operand.pass[s] && stays(s)))
 }
 
-/// Holds the marked states of the second, and each of the first with, on every
+/// Holds PASS of the second, and each state in PASS of the first with, on every
 /// assignment, a successor in the set.
-pub fn is_eu_set(table: &Table, first: &[bool], second: &[bool], set: &[bool]) -> bool {
-    let must_hold = |s: usize| second[s] || (first[s] && no_assignment_without(table, s, set));
+fn is_eu_set(table: &Table, first: &Marks, second: &Marks, set: &[bool]) -> bool {
+    let must_hold =
+        |s: usize| second.pass[s] || (first.pass[s] && no_assignment_without(table, s, set));
     (0..set.len()).all(|s| set[s] || !must_hold(s))
 }
 
@@ -98,7 +100,7 @@ fn check_relation(
     }
     counts.add("relations that keep the rule", 1);
     let states = largest.len();
-    if states > RELATION_STATES || matches!(rule.node, Node::Au(_, _)) {
+    if states > RELATION_STATES {
         return Ok(());
     }
     for pairs in all_sets(states * states) {

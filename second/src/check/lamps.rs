@@ -34,16 +34,14 @@ pub fn check(checked: &Checked, prng: &mut Prng, counts: &mut Counts) -> Result<
 /// marks are the same.
 fn check_coarser(checked: &Checked, c: usize, counts: &mut Counts) -> Result<(), Violation> {
     let reading = Reading::WholeOutputWords;
-    let tables = &checked.instrument.tables;
-    let spelling = &checked.queries.bench.spelling;
-    let marks = marks(&tables[c], &spelling.nodes, reading);
-    if spelling.of_file(&marks) != checked.queries.bench.marks[c] {
+    let Instrument { tables, nodes, .. } = checked.instrument;
+    let marks = marks(&tables[c], nodes, reading);
+    if marks != checked.queries.bench.marks[c] {
         return Err(format!("component {c}: other marks where whole output words are compared"));
     }
     let compared = &compared_outputs(tables, c, reading);
     let finer =
-        relations(&Component { table: &tables[c], compared, spelling, marks: &marks, reading });
-    let finer = spelling.of_file(&finer);
+        relations(&Component { table: &tables[c], compared, nodes, marks: &marks, reading });
     for (k, coarser) in checked.queries.bench.relations[c].iter().enumerate() {
         for (x, row) in finer[k].iter().enumerate() {
             if let Some(y) = (0..row.len()).find(|&y| row[y] && !coarser[x][y]) {

@@ -15,7 +15,7 @@ pub fn check(checked: &Checked, counts: &mut Counts) -> Result<(), Violation> {
     let merged_size = combination::size(&bench.merged_tables);
     let full_size = combination::size(&checked.instrument.tables);
     count_sizes(merged_size, full_size, counts);
-    let words = match (bench.merged_words(), merged_size > limits::COMBINED_STATES) {
+    let words = match (&bench.merged_words, merged_size > limits::COMBINED_STATES) {
         (Ok(words), false) if words.len() == merged_size => words,
         (Err(Refusal::MergedTooLarge), true) => return Ok(()),
         _ => return Err("merged words are not one per merged state, or 12".to_string()),
@@ -83,7 +83,7 @@ fn count_sizes(merged: usize, full: usize, counts: &mut Counts) {
 
 /// The verdict is the full truth over the starts; 12 is its only refusal.
 pub fn check_verdict(checked: &Checked, counts: &mut Counts) -> Result<(), Violation> {
-    let too_large = checked.queries.bench.merged_bits.is_err();
+    let too_large = checked.queries.bench.merged_words.is_err();
     let verdict = match verdict(&checked.queries.bench) {
         Ok(verdict) => verdict,
         Err(Refusal::MergedTooLarge) if too_large => {

@@ -1,6 +1,5 @@
 //! The checks of one instrument. Each answers what is violated, if anything.
 
-mod always;
 mod answers;
 mod enumeration;
 mod files;
@@ -11,7 +10,6 @@ mod marks;
 mod merged;
 mod relation;
 mod rules;
-mod spelled;
 mod stays;
 mod steps;
 
@@ -69,8 +67,6 @@ pub fn check(
     merged::check_verdict(&checked, counts)?;
     lassos::check(&checked, counts)?;
     enumeration::check(&checked, counts)?;
-    always::check(&checked, counts)?;
-    spelled::check(&checked, &mut prng, counts)?;
     stays::check(&checked, &mut prng, counts)?;
     lamps::check(&checked, &mut prng, counts)?;
     files::check_lent_buffers(&checked.queries, counts)

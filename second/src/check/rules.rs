@@ -5,9 +5,8 @@ use crate::instrument::{Node, Table};
 use crate::marks::Marks;
 use crate::relation::Relation;
 
-/// Whether marks of true, signal, not, or, and and implies, PASS of EX and FAIL of AX
-/// are as documents 01 and 02 say, given those of the earlier nodes. Other marks are
-/// judged elsewhere.
+/// Whether marks of true, signal, not and or, and PASS of EX, are as document 01
+/// says, given those of the earlier nodes. Other marks are judged elsewhere.
 pub fn simple_marks_right(table: &Table, node: &Node, marks: &[Marks], own: &Marks) -> bool {
     (0..table.states()).all(|s| {
         let mark = (own.pass[s], own.fail[s]);
@@ -24,17 +23,7 @@ pub fn simple_marks_right(table: &Table, node: &Node, marks: &[Marks], own: &Mar
                 mark == (first.pass[s] | second.pass[s], first.fail[s] & second.fail[s])
             }
             Node::Ex(a) => own.pass[s] == no_assignment_without(table, s, &marks[a].pass),
-            Node::And(a, b) => {
-                let (first, second) = (&marks[a], &marks[b]);
-                mark == (first.pass[s] & second.pass[s], first.fail[s] | second.fail[s])
-            }
-            Node::Implies(a, b) => {
-                let (first, second) = (&marks[a], &marks[b]);
-                mark == (first.fail[s] | second.pass[s], first.pass[s] & second.fail[s])
-            }
-            Node::Ax(a) => own.fail[s] == no_assignment_without(table, s, &marks[a].fail),
             Node::Eg(_) | Node::Eu(_, _) => true,
-            Node::Af(_) | Node::Ag(_) | Node::Au(_, _) => true,
         }
     })
 }
@@ -91,8 +80,6 @@ impl Rule<'_> {
         }
         match self.node {
             Node::True | Node::Not(_) | Node::Or(_, _) => true,
-            // AU has two rules, which src/check/always.rs looks at.
-            Node::And(_, _) | Node::Implies(_, _) | Node::Au(_, _) => true,
             Node::Signal(signal) => match self.table.outputs.iter().position(|&o| o == signal) {
                 None => true,
                 Some(j) => self.table.levels[x][j] == self.table.levels[y][j],
@@ -104,15 +91,6 @@ impl Rule<'_> {
             Node::Eg(_) | Node::Eu(_, _) => {
                 self.marked_alike(x, y)
                     || self.same_outputs_and_steps(&self.own.fail, relation, x, y)
-            }
-            // FAIL of the EX, EG and EU inside is PASS of what denies it.
-            Node::Ax(a) => {
-                self.marked_alike(x, y)
-                    || self.same_outputs_and_steps(&self.marks[a].pass, &self.earlier[a], x, y)
-            }
-            Node::Af(_) | Node::Ag(_) => {
-                self.marked_alike(x, y)
-                    || self.same_outputs_and_steps(&self.own.pass, relation, x, y)
             }
         }
     }

@@ -1,22 +1,17 @@
 //! Random formulas.
 
-use super::shapes::Shape;
 use crate::instrument::Node;
 use crate::prng::Prng;
 
 /// Random nodes that name driven signals only. The first few are signals; then
 /// operands are often the latest nodes, so that most nodes are under the root,
 /// and some are shared.
-pub fn formula(prng: &mut Prng, driven: &[usize], shape: &Shape) -> Vec<Node> {
-    let count = shape.nodes;
+pub fn formula(prng: &mut Prng, driven: &[usize], count: usize) -> Vec<Node> {
     let leaves = prng.between(1, 4).min(count);
     let mut nodes: Vec<Node> = (0..leaves).map(|_| leaf(prng, driven)).collect();
     while nodes.len() < count {
         if prng.percent(10) && nodes.len() + 1 < count {
             nodes.push(leaf(prng, driven));
-        } else if shape.short_kinds > 0 && prng.percent(shape.short_kinds) {
-            let node = short_node(prng, nodes.len());
-            nodes.push(node);
         } else if prng.percent(25) && nodes.len() + 4 <= count {
             add_and(prng, &mut nodes);
         } else {
@@ -44,20 +39,6 @@ fn inner_node(prng: &mut Prng, k: usize) -> Node {
         6..=9 => Node::Ex(a),
         10..=12 => Node::Eg(a),
         _ => Node::Eu(a, b),
-    }
-}
-
-/// A node of kinds 7 to 12.
-fn short_node(prng: &mut Prng, k: usize) -> Node {
-    let a = operand(prng, k);
-    let b = operand(prng, k);
-    match prng.below(12) {
-        0..=1 => Node::And(a, b),
-        2..=3 => Node::Implies(a, b),
-        4..=5 => Node::Ax(a),
-        6..=7 => Node::Af(a),
-        8 => Node::Ag(a),
-        _ => Node::Au(a, b),
     }
 }
 

@@ -8,7 +8,7 @@ mod tables;
 
 use crate::instrument::{Instrument, Node, Table};
 use crate::limits;
-use crate::marks::marks_of_file;
+use crate::marks::marks;
 use crate::prng::Prng;
 use crate::reading::Reading;
 use formula::formula;
@@ -23,7 +23,7 @@ use tables::{change_one_set, listed_inputs, make_dense, with_duplicates};
 
 /// An instrument of a shape that is itself drawn; most are small.
 pub fn instrument(prng: &mut Prng) -> Instrument {
-    let mut shape = match prng.below(1000) {
+    let shape = match prng.below(1000) {
         0..=399 => tiny(prng),
         400..=859 => small(prng),
         860..=949 => medium(prng),
@@ -34,18 +34,7 @@ pub fn instrument(prng: &mut Prng) -> Instrument {
         990..=996 => large_listed(prng),
         _ => at_limits(prng),
     };
-    draw_short_kinds(&mut prng.aside(), &mut shape);
     with_lamps(prng, &shape, 35)
-}
-
-/// Half of the formulas have kinds 7 to 12. Some small instruments have as many nodes as
-/// there can be, most of them of these kinds.
-fn draw_short_kinds(prng: &mut Prng, shape: &mut Shape) {
-    shape.short_kinds = *prng.one_of(&[0, 0, 30, 60]);
-    if shape.sizes.iter().product::<usize>() <= 40 && prng.percent(6) {
-        shape.short_kinds = 80;
-        shape.nodes = limits::NODES;
-    }
 }
 
 /// An instrument of the shape, some with further stays, and stays written both
@@ -109,21 +98,21 @@ pub fn without_empty_sets(prng: &mut Prng, shape: &Shape) -> Instrument {
         tables.push(table);
     }
     let driven: Vec<usize> = outputs.into_iter().flatten().collect();
-    let nodes = chosen_formula(prng, &tables, &driven, shape);
+    let nodes = chosen_formula(prng, &tables, &driven, shape.nodes);
     let starts = starts(prng, &tables, &nodes, shape.starts);
     Instrument { signals: shape.signals, tables, nodes, starts }
 }
 
 /// Mostly a formula whose root leaves some combined state without a mark, where
 /// one is found in a few attempts.
-fn chosen_formula(prng: &mut Prng, tables: &[Table], driven: &[usize], shape: &Shape) -> Vec<Node> {
-    let mut nodes = formula(prng, driven, shape);
+fn chosen_formula(prng: &mut Prng, tables: &[Table], driven: &[usize], count: usize) -> Vec<Node> {
+    let mut nodes = formula(prng, driven, count);
     let attempts = if prng.percent(70) { 8 } else { 0 };
     for _ in 0..attempts {
         if !unmarked_states(tables, &nodes).iter().any(|states| states.is_empty()) {
             break;
         }
-        nodes = formula(prng, driven, shape);
+        nodes = formula(prng, driven, count);
     }
     nodes
 }
@@ -132,7 +121,7 @@ fn chosen_formula(prng: &mut Prng, tables: &[Table], driven: &[usize], shape: &S
 fn unmarked_states(tables: &[Table], nodes: &[Node]) -> Vec<Vec<usize>> {
     let mut unmarked = Vec::new();
     for table in tables {
-        let marks = marks_of_file(table, nodes, Reading::Document);
+        let marks = marks(table, nodes, Reading::Document);
         let root = &marks[nodes.len() - 1];
         let states = 0..table.states();
         unmarked.push(states.filter(|&s| !root.pass[s] && !root.fail[s]).collect());

@@ -19,8 +19,6 @@ pub struct Shape {
     pub dense_sets: usize,
     /// Every output is listed by another component, where one has room for it.
     pub all_listed: bool,
-    /// Of a hundred nodes with operands, about this many are of kinds 7 to 12.
-    pub short_kinds: usize,
 }
 
 /// At most six combined states, so that lassos can be listed.
@@ -41,7 +39,6 @@ pub fn tiny(prng: &mut Prng) -> Shape {
         different_states: prng.between(1, 6),
         dense_sets: 0,
         all_listed: false,
-        short_kinds: 0,
     }
 }
 
@@ -56,7 +53,6 @@ pub fn small(prng: &mut Prng) -> Shape {
         different_states: prng.between(2, 5),
         dense_sets: 0,
         all_listed: false,
-        short_kinds: 0,
     }
 }
 
@@ -71,7 +67,6 @@ pub fn medium(prng: &mut Prng) -> Shape {
         different_states: prng.between(2, 6),
         dense_sets: 0,
         all_listed: false,
-        short_kinds: 0,
     }
 }
 
@@ -92,7 +87,6 @@ pub fn large_alike(prng: &mut Prng) -> Shape {
         different_states: prng.between(2, 4),
         dense_sets: 0,
         all_listed: false,
-        short_kinds: 0,
     }
 }
 
@@ -107,7 +101,6 @@ pub fn large_different(prng: &mut Prng) -> Shape {
         different_states: limits::STATES,
         dense_sets: 0,
         all_listed: false,
-        short_kinds: 0,
     }
 }
 
@@ -141,7 +134,6 @@ fn beside_small_ones(prng: &mut Prng, states: usize) -> Shape {
         different_states: prng.between(4, limits::STATES),
         dense_sets: *prng.one_of(&[0, 0, 5, 40]),
         all_listed: false,
-        short_kinds: 0,
     }
 }
 
@@ -156,7 +148,6 @@ pub fn two_wide(prng: &mut Prng) -> Shape {
         different_states: prng.between(3, limits::STATES),
         dense_sets: 0,
         all_listed: false,
-        short_kinds: 0,
     }
 }
 
@@ -183,7 +174,6 @@ pub fn at_limits(prng: &mut Prng) -> Shape {
         different_states: prng.between(2, 8),
         dense_sets: 0,
         all_listed: false,
-        short_kinds: 0,
     }
 }
 

@@ -110,8 +110,8 @@ fn node(line: &Line, names: &Names, signals: &Names, tables: &[Table]) -> Result
     let operands = &line.words[3..];
     let wanted = match kind {
         "true" => 0,
-        "signal" | "not" | "EX" | "EG" | "AX" | "AF" | "AG" => 1,
-        "or" | "EU" | "and" | "implies" | "AU" => 2,
+        "signal" | "not" | "EX" | "EG" => 1,
+        "or" | "EU" => 2,
         _ => return line.error(format!("{kind} is not a kind of node")),
     };
     if operands.len() != wanted {
@@ -131,13 +131,7 @@ fn node(line: &Line, names: &Names, signals: &Names, tables: &[Table]) -> Result
         "or" => Node::Or(operand(0)?, operand(1)?),
         "EX" => Node::Ex(operand(0)?),
         "EG" => Node::Eg(operand(0)?),
-        "EU" => Node::Eu(operand(0)?, operand(1)?),
-        "and" => Node::And(operand(0)?, operand(1)?),
-        "implies" => Node::Implies(operand(0)?, operand(1)?),
-        "AX" => Node::Ax(operand(0)?),
-        "AF" => Node::Af(operand(0)?),
-        "AG" => Node::Ag(operand(0)?),
-        _ => Node::Au(operand(0)?, operand(1)?),
+        _ => Node::Eu(operand(0)?, operand(1)?),
     })
 }
 

@@ -78,11 +78,5 @@ fn node_text(node: &Node) -> String {
         Node::Ex(a) => format!("EX {a}"),
         Node::Eg(a) => format!("EG {a}"),
         Node::Eu(a, b) => format!("EU {a} {b}"),
-        Node::And(a, b) => format!("and {a} {b}"),
-        Node::Implies(a, b) => format!("implies {a} {b}"),
-        Node::Ax(a) => format!("AX {a}"),
-        Node::Af(a) => format!("AF {a}"),
-        Node::Ag(a) => format!("AG {a}"),
-        Node::Au(a, b) => format!("AU {a} {b}"),
     }
 }

@@ -1,7 +1,6 @@
 //! Stored cases: instrument files, questions and the expected output.
 //! README.md describes the folder.
 
-mod always_cases;
 mod bench_cases;
 mod case;
 mod folder;
@@ -22,7 +21,6 @@ pub fn cases() -> Vec<Case> {
     let mut cases = bench_cases::cases();
     cases.extend(stay_cases::cases());
     cases.extend(lamp_cases::cases());
-    cases.extend(always_cases::cases());
     cases.extend(refusal_cases::cases());
     cases.extend(reading_cases::cases());
     cases.extend(random_cases::cases());

@@ -4,9 +4,7 @@
 use super::random_cases::asked_states;
 use super::{output, output_under, Case};
 use crate::fields::write;
-use crate::generator::{
-    instrument_of, lamps_of, large_different, medium, respelled_of, small, tiny, Shape,
-};
+use crate::generator::{lamps_of, large_different, medium, respelled_of, small, tiny, Shape};
 use crate::instrument::Instrument;
 use crate::prng::Prng;
 use crate::queries::Queries;
@@ -21,11 +19,8 @@ const SEEDS: u64 = 1_000_000;
 const FIRST_LARGE_SEED: u64 = 2_020_000_000;
 /// From this wrong reading on, the cases have further lamps.
 const FIRST_OF_LAMPS: usize = 22;
-/// From this one on, they have kinds 7 to 12.
-const FIRST_OF_SHORT_KINDS: usize = 27;
-/// Cases for each wrong reading, and for each of these last ones.
+/// Cases for each wrong reading.
 const FOR_EACH_READING: usize = 8;
-const FOR_EACH_OF_SHORT_KINDS: usize = 4;
 /// Cases above 4,096 merged states.
 const MERGED_TOO_LARGE: usize = 6;
 
@@ -34,12 +29,8 @@ pub fn cases() -> Vec<Case> {
     for (r, reading) in WRONG_READINGS.into_iter().enumerate() {
         let name = format!("reading_{r:02}");
         let first = FIRST_SEED + r as u64 * SEEDS;
-        let (drawn, count): (fn(&mut Prng) -> Instrument, usize) = match r {
-            FIRST_OF_SHORT_KINDS.. => (drawn_with_short_kinds, FOR_EACH_OF_SHORT_KINDS),
-            FIRST_OF_LAMPS.. => (drawn_with_lamps, FOR_EACH_READING),
-            _ => (drawn_small, FOR_EACH_READING),
-        };
-        cases.extend(found(&name, first, count, &drawn, &|case| {
+        let drawn = if r < FIRST_OF_LAMPS { drawn_small } else { drawn_with_lamps };
+        cases.extend(found(&name, first, FOR_EACH_READING, &drawn, &|case| {
             output(case) != output_under(case, reading)
         }));
     }
@@ -82,11 +73,6 @@ fn drawn_small(prng: &mut Prng) -> Instrument {
 fn drawn_with_lamps(prng: &mut Prng) -> Instrument {
     let shape = small_shape(prng);
     lamps_of(prng, &shape)
-}
-
-fn drawn_with_short_kinds(prng: &mut Prng) -> Instrument {
-    let shape = Shape { short_kinds: 60, ..small_shape(prng) };
-    instrument_of(prng, &shape)
 }
 
 fn small_shape(prng: &mut Prng) -> Shape {

@@ -26,7 +26,6 @@ pub fn rows() -> Vec<Row> {
     rows.extend(table_rows());
     rows.extend(formula_and_start_rows());
     rows.extend(empty_set_rows());
-    rows.extend(short_kind_rows());
     rows.extend(wide_rows::rows());
     rows
 }
@@ -140,45 +139,12 @@ fn empty_set_rows() -> Vec<Row> {
     ]
 }
 
-/// Kinds 7 to 12 as the chain's root, with operands that are not there or not earlier
-/// nodes, and the first unknown kind. Document 02, 1/14.
-fn short_kind_rows() -> Vec<Row> {
-    // The chain's start.
-    let rest = &CHAIN[17..];
-    let root = |name: String, bytes: &[u8], number: usize| {
-        cut(&name, &CHAIN, 15, &[bytes, rest].concat(), number)
-    };
-    let mut rows = Vec::new();
-    for kind in 7..=12 {
-        let second: &[u8] = if [7, 8, 12].contains(&kind) { &[0] } else { &[] };
-        rows.push(root(format!("r07_first_of_{kind}"), &[&[kind, 1], second].concat(), 7));
-        if !second.is_empty() {
-            rows.push(root(format!("r07_last_of_{kind}"), &[kind, 0, 1], 7));
-        }
-    }
-    rows.extend([
-        root("r07_13_one".to_string(), &[13, 0], 7),
-        root("r07_13_two".to_string(), &[13, 0, 0], 7),
-        root("r07_kind_14".to_string(), &[14, 0, 0], 7),
-        root("r07_kind_128".to_string(), &[128, 1, 0], 7),
-        changed("r07_node_0_12", &CHAIN, 13, &[12], 7),
-        cut("r07_first_12", &CHAIN, 15, &[12, 1], 7),
-        cut("r01_none_of_12", &CHAIN, 15, &[12], 1),
-        cut("r01_one_of_12", &CHAIN, 15, &[12, 0], 1),
-        cut("r01_none_of_11", &CHAIN, 15, &[11], 1),
-        root("r02_last_of_12".to_string(), &[12, 0, 128, 0], 2),
-        // A second operand to a kind with one is the number of starts.
-        root("r10_two_of_10".to_string(), &[10, 0, 0], 10),
-    ]);
-    rows
-}
-
 /// 7, 8, 9 and 10: nodes, starts and bytes after them.
 fn formula_and_start_rows() -> Vec<Row> {
     let undriven = [1, 2, 1, 0, 1, 0, 1, 1, 1, 1, 0, 0];
     vec![
-        changed("r07_kind", &CHAIN, 15, &[13], 7),
-        cut("r07_kind_end", &CHAIN, 15, &[13], 7),
+        changed("r07_kind", &CHAIN, 15, &[7], 7),
+        cut("r07_kind_end", &CHAIN, 15, &[7], 7),
         changed("r07_kind_largest", &CHAIN, 13, &LARGEST, 7),
         changed("r07_op_largest", &CHAIN, 16, &LARGEST, 7),
         changed("r07_itself", &CHAIN, 16, &[1], 7),

@@ -14,7 +14,7 @@ use Rattle.meaning.specs.File.Number.{choose, groups, with_higher}
 use Rattle.meaning.specs.File.Parser.{Got, Parser, ◌>>=◌, ◌>>◌, demand, done, fault, found, give, list_of, on, repeat}
 use Rattle.meaning.specs.File.Promise.{Within}
 use Rattle.meaning.specs.File.Stretches.{located, place, stretch_of}
-use Rattle.meaning.specs.Nodes.{Node, af, ag, and, atom, au, ax, eg, eu, ex, implies, neg, or, top}
+use Rattle.meaning.specs.Nodes.{Node, atom, eg, eu, ex, neg, or, top}
 use Rattle.meaning.proofs.Basic.Booleans.{and_l, and_r}
 
 -- a number of a file's refusal
@@ -142,13 +142,7 @@ module _ (L : Limits) where
   faults_operands W driven k (suc (suc (suc (suc zero)))) = faults_unary ex (faults_earlier k)
   faults_operands W driven k (suc (suc (suc (suc (suc zero))))) = faults_unary eg (faults_earlier k)
   faults_operands W driven k (suc (suc (suc (suc (suc (suc zero)))))) = faults_binary eu k
-  faults_operands W driven k (suc (suc (suc (suc (suc (suc (suc zero))))))) = faults_binary and k
-  faults_operands W driven k (suc (suc (suc (suc (suc (suc (suc (suc zero)))))))) = faults_binary implies k
-  faults_operands W driven k (suc (suc (suc (suc (suc (suc (suc (suc (suc zero))))))))) = faults_unary ax (faults_earlier k)
-  faults_operands W driven k (suc (suc (suc (suc (suc (suc (suc (suc (suc (suc zero)))))))))) = faults_unary af (faults_earlier k)
-  faults_operands W driven k (suc (suc (suc (suc (suc (suc (suc (suc (suc (suc (suc zero))))))))))) = faults_unary ag (faults_earlier k)
-  faults_operands W driven k (suc (suc (suc (suc (suc (suc (suc (suc (suc (suc (suc (suc zero)))))))))))) = faults_binary au k
-  faults_operands W driven k (suc (suc (suc (suc (suc (suc (suc (suc (suc (suc (suc (suc (suc unknown))))))))))))) = record { faults = λ file at. tt }
+  faults_operands W driven k (suc (suc (suc (suc (suc (suc (suc unknown))))))) = record { faults = λ file at. tt }
 
   faults_node : (W driven k : ℕ) → Refuses (node L W driven k)
   unfolding node

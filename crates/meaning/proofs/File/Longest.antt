@@ -17,8 +17,8 @@ use Rattle.meaning.specs.Atoms.{Atom, on_signal}
 use Rattle.meaning.specs.File.Grammar.{Component, Contents, Limits, as_written, filled, filled_contents, filled_from, filled_set, limits, read_file, whole, with_all}
 use Rattle.meaning.specs.File.Parser.{Got, fault, found}
 use Rattle.meaning.specs.File.Promise.{Promised, PromisedComponent, Signals, component_at, longest_file, no_component}
-use Rattle.meaning.specs.Nodes.{Earlier, Node, Operand, af, ag, and, atom, au, ax, eg, eu, ex, implies, neg, node_at, or, top}
-use Rattle.meaning.specs.Nodes.{of_af, of_ag, of_and_l, of_and_r, of_au_l, of_au_r, of_ax, of_eg, of_eu_l, of_eu_r, of_ex, of_implies_l, of_implies_r, of_neg, of_or_l, of_or_r}
+use Rattle.meaning.specs.Nodes.{Earlier, Node, Operand, atom, eg, eu, ex, neg, node_at, of_eg, of_eu_l, of_eu_r, of_ex, of_neg}
+use Rattle.meaning.specs.Nodes.{of_or_l, of_or_r, or, top}
 use Rattle.meaning.specs.Tests.{All, listed}
 use Rattle.meaning.proofs.Basic.Bounded.{last_or}
 use Rattle.meaning.proofs.Basic.Lists.{all_map, listed_at}
@@ -225,15 +225,6 @@ module _ (L : Limits) where
     node_le (eg i) e n = let l = e i of_eg in omega (arith, num_le i L.nodes (omega arith))
     node_le (eu i j) e n =
         let l = e i of_eu_l in let r = e j of_eu_r in omega (arith, num_le i L.nodes (omega arith), num_le j L.nodes (omega arith))
-    node_le (and i j) e n =
-        let l = e i of_and_l in let r = e j of_and_r in omega (arith, num_le i L.nodes (omega arith), num_le j L.nodes (omega arith))
-    node_le (implies i j) e n =
-        let l = e i of_implies_l in let r = e j of_implies_r in omega (arith, num_le i L.nodes (omega arith), num_le j L.nodes (omega arith))
-    node_le (ax i) e n = let l = e i of_ax in omega (arith, num_le i L.nodes (omega arith))
-    node_le (af i) e n = let l = e i of_af in omega (arith, num_le i L.nodes (omega arith))
-    node_le (ag i) e n = let l = e i of_ag in omega (arith, num_le i L.nodes (omega arith))
-    node_le (au i j) e n =
-        let l = e i of_au_l in let r = e j of_au_r in omega (arith, num_le i L.nodes (omega arith), num_le j L.nodes (omega arith))
 
   first_le : (m : Node Atom) → ((i : ℕ) → Operand i m → i < 0) → ((w : ℕ) → m ≡ atom (on_signal w) → w < L.signals) → node_size L m ≤ 1 + num L.signals
   first_le top e n = omega arith
@@ -243,12 +234,6 @@ module _ (L : Limits) where
   first_le (ex i) e n = absurd (omega (arith, e i of_ex))
   first_le (eg i) e n = absurd (omega (arith, e i of_eg))
   first_le (eu i j) e n = absurd (omega (arith, e i of_eu_l))
-  first_le (and i j) e n = absurd (omega (arith, e i of_and_l))
-  first_le (implies i j) e n = absurd (omega (arith, e i of_implies_l))
-  first_le (ax i) e n = absurd (omega (arith, e i of_ax))
-  first_le (af i) e n = absurd (omega (arith, e i of_af))
-  first_le (ag i) e n = absurd (omega (arith, e i of_ag))
-  first_le (au i j) e n = absurd (omega (arith, e i of_au_l))
 
   abbrev pub longest_nodes : ℕ
   longest_nodes = 1 + num L.signals + (L.nodes - 1) * (1 + longest_operands)

@@ -11,7 +11,7 @@ use Rattle.words.specs.Sets.{has}
 use Rattle.meaning.specs.Atoms.{Atom, on_signal}
 use Rattle.meaning.specs.File.Grammar.{Limits, binary, earlier, node, nodes, operands as node_of, unary}
 use Rattle.meaning.specs.File.Parser.{Parser}
-use Rattle.meaning.specs.Nodes.{Earlier, Node, af, ag, and, atom, au, ax, eg, eu, ex, implies, neg, node_at, or, top}
+use Rattle.meaning.specs.Nodes.{Earlier, Node, atom, eg, eu, ex, neg, node_at, or, top}
 use Rattle.meaning.specs.Reference.Nodes.{operands}
 use Rattle.meaning.specs.Reference.Tests.{all_of}
 use Rattle.meaning.proofs.Basic.Booleans.{and_in}
@@ -30,12 +30,6 @@ Named driven (or i j) = Unit {0}
 Named driven (ex i) = Unit {0}
 Named driven (eg i) = Unit {0}
 Named driven (eu i j) = Unit {0}
-Named driven (and i j) = Unit {0}
-Named driven (implies i j) = Unit {0}
-Named driven (ax i) = Unit {0}
-Named driven (af i) = Unit {0}
-Named driven (ag i) = Unit {0}
-Named driven (au i j) = Unit {0}
 
 -- node k as it was read, and all nodes
 pub record NodeRead (driven k : ℕ) (m : Node Atom) : Type 0 where
@@ -82,16 +76,7 @@ module _ (L : Limits) (W driven : ℕ) where
   reads_operands k (suc (suc (suc (suc (suc zero))))) =
       reads_unary k eg (reads_earlier k) (λ v h. record { before = one v k h; names = tt })
   reads_operands k (suc (suc (suc (suc (suc (suc zero)))))) = reads_binary k eu (λ a b p q. record { before = two a b k p q; names = tt })
-  reads_operands k (suc (suc (suc (suc (suc (suc (suc zero))))))) = reads_binary k and (λ a b p q. record { before = two a b k p q; names = tt })
-  reads_operands k (suc (suc (suc (suc (suc (suc (suc (suc zero)))))))) = reads_binary k implies (λ a b p q. record { before = two a b k p q; names = tt })
-  reads_operands k (suc (suc (suc (suc (suc (suc (suc (suc (suc zero))))))))) =
-      reads_unary k ax (reads_earlier k) (λ v h. record { before = one v k h; names = tt })
-  reads_operands k (suc (suc (suc (suc (suc (suc (suc (suc (suc (suc zero)))))))))) =
-      reads_unary k af (reads_earlier k) (λ v h. record { before = one v k h; names = tt })
-  reads_operands k (suc (suc (suc (suc (suc (suc (suc (suc (suc (suc (suc zero))))))))))) =
-      reads_unary k ag (reads_earlier k) (λ v h. record { before = one v k h; names = tt })
-  reads_operands k (suc (suc (suc (suc (suc (suc (suc (suc (suc (suc (suc (suc zero)))))))))))) = reads_binary k au (λ a b p q. record { before = two a b k p q; names = tt })
-  reads_operands k (suc (suc (suc (suc (suc (suc (suc (suc (suc (suc (suc (suc (suc unknown))))))))))))) = record { says = λ file at. tt; same = λ j file at h. refl }
+  reads_operands k (suc (suc (suc (suc (suc (suc (suc unknown))))))) = record { says = λ file at. tt; same = λ j file at h. refl }
 
   pub reads_node : (k : ℕ) → Reads (node L W driven k) (3 * width L) (NodeRead driven k)
   unfolding node

@@ -10,8 +10,7 @@ use native.Mathlib.Omega.{arith}
 use Prim.Native.Nat.{◌-◌, ◌<◌, ◌≤◌, suc, zero, ℕ}
 use Rattle.meaning.specs.Formula.{Formula}
 use Rattle.meaning.specs.Nodes.{Beneath, Earlier, Node, Operand, formula_at, formula_of, node_at, of_eg, of_eu_l, of_eu_r, of_ex, of_neg}
-use Rattle.meaning.specs.Nodes.{of_or_l, of_or_r, of_and_l, of_and_r, of_implies_l, of_implies_r, of_ax, of_af, of_ag, of_au_l, of_au_r, through, unfolded}
-use Rattle.meaning.specs.Derived as derived
+use Rattle.meaning.specs.Nodes.{of_or_l, of_or_r, through, unfolded}
 use Rattle.meaning.specs.Reference.Nodes.{beneath_b, earlier_b, operands}
 use Rattle.meaning.specs.Reference.Tests.{all_of, any_of}
 use Rattle.meaning.specs.Tests.{listed}
@@ -20,7 +19,7 @@ use Rattle.meaning.proofs.Basic.Bounded.{all_out}
 use Rattle.meaning.proofs.Basic.Lists.{any_of_places}
 use Rattle.meaning.proofs.File.Formulas.{Part, Under, under}
 
-pub formula_same : {A : Type 0} (m : Node A) (f g : ℕ → Formula A) → ((i : ℕ) → Operand i m → f i ≡ g i) → formula_of m f ≡ formula_of m g
+formula_same : {A : Type 0} (m : Node A) (f g : ℕ → Formula A) → ((i : ℕ) → Operand i m → f i ≡ g i) → formula_of m f ≡ formula_of m g
 formula_same Node.top f g h = refl
 formula_same (Node.atom a) f g h = refl
 formula_same (Node.neg i) f g h = ap Formula.neg (h i of_neg)
@@ -28,39 +27,20 @@ formula_same (Node.or i j) f g h = ap₂ Formula.or (h i of_or_l) (h j of_or_r)
 formula_same (Node.ex i) f g h = ap Formula.ex (h i of_ex)
 formula_same (Node.eg i) f g h = ap Formula.eg (h i of_eg)
 formula_same (Node.eu i j) f g h = ap₂ Formula.eu (h i of_eu_l) (h j of_eu_r)
-formula_same (Node.and i j) f g h = ap₂ derived.and (h i of_and_l) (h j of_and_r)
-formula_same (Node.implies i j) f g h = ap₂ derived.implies (h i of_implies_l) (h j of_implies_r)
-formula_same (Node.ax i) f g h = ap derived.ax (h i of_ax)
-formula_same (Node.af i) f g h = ap derived.af (h i of_af)
-formula_same (Node.ag i) f g h = ap derived.ag (h i of_ag)
-formula_same (Node.au i j) f g h = ap₂ derived.au (h i of_au_l) (h j of_au_r)
 
--- an operand's formula stands under the node's: of kinds 7 to 12 inside the spelled-out formula
-operand_under : {A : Type 0} (m : Node A) (f : ℕ → Formula A) (i : ℕ) → Operand i m → Under (f i) (formula_of m f)
-operand_under m f i of_neg = under Part.of_neg Under.itself
-operand_under m f i of_or_l = under Part.of_or_l Under.itself
-operand_under m f i of_or_r = under Part.of_or_r Under.itself
-operand_under m f i of_ex = under Part.of_ex Under.itself
-operand_under m f i of_eg = under Part.of_eg Under.itself
-operand_under m f i of_eu_l = under Part.of_eu_l Under.itself
-operand_under m f i of_eu_r = under Part.of_eu_r Under.itself
-operand_under m f i of_and_l = under Part.of_neg (under Part.of_or_l (under Part.of_neg Under.itself))
-operand_under m f i of_and_r = under Part.of_neg (under Part.of_or_r (under Part.of_neg Under.itself))
-operand_under m f i of_implies_l = under Part.of_or_l (under Part.of_neg Under.itself)
-operand_under m f i of_implies_r = under Part.of_or_r Under.itself
-operand_under m f i of_ax = under Part.of_neg (under Part.of_ex (under Part.of_neg Under.itself))
-operand_under m f i of_af = under Part.of_neg (under Part.of_eg (under Part.of_neg Under.itself))
-operand_under m f i of_ag = under Part.of_neg (under Part.of_eu_r (under Part.of_neg Under.itself))
-operand_under m f i of_au_l = under Part.of_neg (under Part.of_or_l (under Part.of_eu_r (under Part.of_neg (under Part.of_or_l Under.itself))))
-operand_under m f i of_au_r = under Part.of_neg (under Part.of_or_r (under Part.of_eg (under Part.of_neg Under.itself)))
-
-under_under : {A : Type 0} {φ ψ χ : Formula A} → Under ψ χ → Under φ ψ → Under φ χ
-under_under Under.itself u = u
-under_under (under p v) u = under p (under_under v u)
+-- an operand's formula is an operand of the node's
+operand_part : {A : Type 0} (m : Node A) (f : ℕ → Formula A) (i : ℕ) → Operand i m → Part (f i) (formula_of m f)
+operand_part m f i of_neg = Part.of_neg
+operand_part m f i of_or_l = Part.of_or_l
+operand_part m f i of_or_r = Part.of_or_r
+operand_part m f i of_ex = Part.of_ex
+operand_part m f i of_eg = Part.of_eg
+operand_part m f i of_eu_l = Part.of_eu_l
+operand_part m f i of_eu_r = Part.of_eu_r
 
 -- tests of the listed operands
 module _ {A : Type 0} (p : ℕ → Bool) where
-  pub all_operands : (m : Node A) (i : ℕ) → Operand i m → T (all_of p (operands m)) → T (p i)
+  all_operands : (m : Node A) (i : ℕ) → Operand i m → T (all_of p (operands m)) → T (p i)
   all_operands m i of_neg h = and_l (p i) true h
   all_operands m i (of_or_l {j = j}) h = and_l (p i) (p j && true) h
   all_operands m i (of_or_r {j = j}) h = and_l (p i) true (and_r (p j) (p i && true) h)
@@ -68,15 +48,6 @@ module _ {A : Type 0} (p : ℕ → Bool) where
   all_operands m i of_eg h = and_l (p i) true h
   all_operands m i (of_eu_l {j = j}) h = and_l (p i) (p j && true) h
   all_operands m i (of_eu_r {j = j}) h = and_l (p i) true (and_r (p j) (p i && true) h)
-  all_operands m i (of_and_l {j = j}) h = and_l (p i) (p j && true) h
-  all_operands m i (of_and_r {j = j}) h = and_l (p i) true (and_r (p j) (p i && true) h)
-  all_operands m i (of_implies_l {j = j}) h = and_l (p i) (p j && true) h
-  all_operands m i (of_implies_r {j = j}) h = and_l (p i) true (and_r (p j) (p i && true) h)
-  all_operands m i of_ax h = and_l (p i) true h
-  all_operands m i of_af h = and_l (p i) true h
-  all_operands m i of_ag h = and_l (p i) true h
-  all_operands m i (of_au_l {j = j}) h = and_l (p i) (p j && true) h
-  all_operands m i (of_au_r {j = j}) h = and_l (p i) true (and_r (p j) (p i && true) h)
 
   operand_any : (m : Node A) (i : ℕ) → Operand i m → T (p i) → T (any_of p (operands m))
   operand_any m i of_neg h = or_l (p i) false h
@@ -86,15 +57,6 @@ module _ {A : Type 0} (p : ℕ → Bool) where
   operand_any m i of_eg h = or_l (p i) false h
   operand_any m i (of_eu_l {j = j}) h = or_l (p i) (p j || false) h
   operand_any m i (of_eu_r {j = j}) h = or_r (p j) (p i || false) (or_l (p i) false h)
-  operand_any m i (of_and_l {j = j}) h = or_l (p i) (p j || false) h
-  operand_any m i (of_and_r {j = j}) h = or_r (p j) (p i || false) (or_l (p i) false h)
-  operand_any m i (of_implies_l {j = j}) h = or_l (p i) (p j || false) h
-  operand_any m i (of_implies_r {j = j}) h = or_r (p j) (p i || false) (or_l (p i) false h)
-  operand_any m i of_ax h = or_l (p i) false h
-  operand_any m i of_af h = or_l (p i) false h
-  operand_any m i of_ag h = or_l (p i) false h
-  operand_any m i (of_au_l {j = j}) h = or_l (p i) (p j || false) h
-  operand_any m i (of_au_r {j = j}) h = or_r (p j) (p i || false) (or_l (p i) false h)
 
   -- one of one, and one of two
   one_of : (m : Node A) (i : ℕ) → Operand i m → T (p i || false) → (k : ℕ) × Operand k m × T (p k)
@@ -111,12 +73,6 @@ module _ {A : Type 0} (p : ℕ → Bool) where
   any_operand (Node.ex i) h = one_of (Node.ex i) i of_ex h
   any_operand (Node.eg i) h = one_of (Node.eg i) i of_eg h
   any_operand (Node.eu i j) h = two_of (Node.eu i j) i j of_eu_l of_eu_r h
-  any_operand (Node.and i j) h = two_of (Node.and i j) i j of_and_l of_and_r h
-  any_operand (Node.implies i j) h = two_of (Node.implies i j) i j of_implies_l of_implies_r h
-  any_operand (Node.ax i) h = one_of (Node.ax i) i of_ax h
-  any_operand (Node.af i) h = one_of (Node.af i) i of_af h
-  any_operand (Node.ag i) h = one_of (Node.ag i) i of_ag h
-  any_operand (Node.au i j) h = two_of (Node.au i j) i j of_au_l of_au_r h
 
 -- the operands are those that are listed
 pub operand_listed : {A : Type 0} (m : Node A) (j : ℕ) → Operand j m ↔ T (listed (operands m) j)
@@ -127,7 +83,7 @@ operand_listed m j = (
       subst (λ k. Operand k m) (eqb→eq k j e) o,
 )
 
-pub no_operand : {A : Type 0} (i : ℕ) → Operand {A = A} i Node.top → ⊥
+no_operand : {A : Type 0} (i : ℕ) → Operand {A = A} i Node.top → ⊥
 no_operand {A} i o = all_operands {A = A} (λ k. false) Node.top i o tt
 
 module _ {A : Type 0} (nodes : List (Node A)) where
@@ -182,5 +138,5 @@ module _ {A : Type 0} (nodes : List (Node A)) (earlier : Earlier nodes) where
   pub beneath_under : (j k : ℕ) → Beneath nodes j k → Under (formula_at nodes j) (formula_at nodes k)
   beneath_under j k Beneath.itself = Under.itself
   beneath_under j k (through {i = i} o b) =
-      under_under (subst (λ φ. Under (formula_at nodes i) φ) (sym (formula_at_lem k)) (operand_under (node_at nodes k) (formula_at nodes) i o))
+      under (subst (λ φ. Part (formula_at nodes i) φ) (sym (formula_at_lem k)) (operand_part (node_at nodes k) (formula_at nodes) i o))
       (beneath_under j i b)

@@ -12,7 +12,7 @@ use Rattle.meaning.specs.File.Grammar.{Component, Contents, Limits, as_written, 
 use Rattle.meaning.specs.File.Grammar.{named, node, nodes, number, operands, signal, signals, start, start_state, unary, whole, with_all}
 use Rattle.meaning.specs.File.Number.{choose, groups, with_higher}
 use Rattle.meaning.specs.File.Parser.{Got, Parser, demand, done, fault, found, list_of, on, repeat}
-use Rattle.meaning.specs.Nodes.{Node, af, ag, and, atom, au, ax, eg, eu, ex, implies, neg, or, top}
+use Rattle.meaning.specs.Nodes.{Node, atom, eg, eu, ex, neg, or, top}
 use Rattle.meaning.proofs.Basic.Booleans.{is_false, is_true}
 use Rattle.meaning.proofs.File.Lists.{Says, Told, found_says, list_more, list_none, says_map, told_found, told_map, told_on}
 
@@ -62,12 +62,6 @@ module _ (L : Limits) where
   node_size (ex i) = 1 + number_bytes i
   node_size (eg i) = 1 + number_bytes i
   node_size (eu i j) = 1 + number_bytes i + number_bytes j
-  node_size (and i j) = 1 + number_bytes i + number_bytes j
-  node_size (implies i j) = 1 + number_bytes i + number_bytes j
-  node_size (ax i) = 1 + number_bytes i
-  node_size (af i) = 1 + number_bytes i
-  node_size (ag i) = 1 + number_bytes i
-  node_size (au i j) = 1 + number_bytes i + number_bytes j
 
   abbrev pub contents_size : Contents → ℕ
   contents_size c =
@@ -214,16 +208,7 @@ module _ (file : List ℕ) where
       operands_take (suc (suc (suc (suc (suc zero))))) l q =
           unary_takes eg (earlier L k) (λ a. refl) (omega (arith, low 5 (omega arith))) (less_takes k 7 n)
       operands_take (suc (suc (suc (suc (suc (suc zero)))))) l q = binary_takes eu (λ a b. refl) (omega (arith, low 6 (omega arith)))
-      operands_take (suc (suc (suc (suc (suc (suc (suc zero))))))) l q = binary_takes and (λ a b. refl) (omega (arith, low 7 (omega arith)))
-      operands_take (suc (suc (suc (suc (suc (suc (suc (suc zero)))))))) l q = binary_takes implies (λ a b. refl) (omega (arith, low 8 (omega arith)))
-      operands_take (suc (suc (suc (suc (suc (suc (suc (suc (suc zero))))))))) l q =
-          unary_takes ax (earlier L k) (λ a. refl) (omega (arith, low 9 (omega arith))) (less_takes k 7 n)
-      operands_take (suc (suc (suc (suc (suc (suc (suc (suc (suc (suc zero)))))))))) l q =
-          unary_takes af (earlier L k) (λ a. refl) (omega (arith, low 10 (omega arith))) (less_takes k 7 n)
-      operands_take (suc (suc (suc (suc (suc (suc (suc (suc (suc (suc (suc zero))))))))))) l q =
-          unary_takes ag (earlier L k) (λ a. refl) (omega (arith, low 11 (omega arith))) (less_takes k 7 n)
-      operands_take (suc (suc (suc (suc (suc (suc (suc (suc (suc (suc (suc (suc zero)))))))))))) l q = binary_takes au (λ a b. refl) (omega (arith, low 12 (omega arith)))
-      operands_take (suc (suc (suc (suc (suc (suc (suc (suc (suc (suc (suc (suc (suc unknown))))))))))))) l q = record { told = tt }
+      operands_take (suc (suc (suc (suc (suc (suc (suc unknown))))))) l q = record { told = tt }
 
     node_takes : (W driven k at : ℕ) → Told (λ m e. Takes at (node_size L m) e) (node L W driven k file at)
     unfolding node

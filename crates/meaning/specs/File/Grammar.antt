@@ -4,7 +4,7 @@ use Rattle.std.specs.Prelude.{not, ◌&&◌, List, [], ◌∷◌, map, ltb, leb,
 use Rattle.words.specs.Sets.{has, insert}
 use Rattle.meaning.specs.Atoms.{Atom, Set, on_signal}
 use Rattle.meaning.specs.Table.{Table, from_words}
-use Rattle.meaning.specs.Nodes.{Node, top, atom, neg, or, ex, eg, eu, and, implies, ax, af, ag, au}
+use Rattle.meaning.specs.Nodes.{Node, top, atom, neg, or, ex, eg, eu}
 use Rattle.meaning.specs.Instrument.{Instrument}
 use Rattle.meaning.specs.File.Parser.{Got, fault, Parser, Done, ◌>>=◌, ◌>>◌, give, demand, list_of, repeat}
 use Rattle.meaning.specs.File.Number.{number_with}
@@ -178,7 +178,7 @@ module _ (L : Limits) where
     b ← earlier k
     give (f a b)
 
-  -- node k of a known kind with its operands; 13 and above are refused
+  -- node k of a known kind with its operands; 7 and above are refused
   abbrev pub operands : ℕ → ℕ → ℕ → ℕ → Parser (Node Atom)
   operands W driven k zero = give top
   operands W driven k (suc zero) = unary (λ w. atom (on_signal w)) (named W driven)
@@ -187,13 +187,7 @@ module _ (L : Limits) where
   operands W driven k (suc (suc (suc (suc zero)))) = unary ex (earlier k)
   operands W driven k (suc (suc (suc (suc (suc zero))))) = unary eg (earlier k)
   operands W driven k (suc (suc (suc (suc (suc (suc zero)))))) = binary eu k
-  operands W driven k (suc (suc (suc (suc (suc (suc (suc zero))))))) = binary and k
-  operands W driven k (suc (suc (suc (suc (suc (suc (suc (suc zero)))))))) = binary implies k
-  operands W driven k (suc (suc (suc (suc (suc (suc (suc (suc (suc zero))))))))) = unary ax (earlier k)
-  operands W driven k (suc (suc (suc (suc (suc (suc (suc (suc (suc (suc zero)))))))))) = unary af (earlier k)
-  operands W driven k (suc (suc (suc (suc (suc (suc (suc (suc (suc (suc (suc zero))))))))))) = unary ag (earlier k)
-  operands W driven k (suc (suc (suc (suc (suc (suc (suc (suc (suc (suc (suc (suc zero)))))))))))) = binary au k
-  operands W driven k (suc (suc (suc (suc (suc (suc (suc (suc (suc (suc (suc (suc (suc unknown))))))))))))) = λ file at. fault 7
+  operands W driven k (suc (suc (suc (suc (suc (suc (suc unknown))))))) = λ file at. fault 7
 
   unfoldable pub node : ℕ → ℕ → ℕ → Parser (Node Atom)
   node W driven k = do

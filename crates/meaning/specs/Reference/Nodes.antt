@@ -1,6 +1,6 @@
 -- The operands of a node in a list, and tests of node lists.
 use Rattle.std.specs.Prelude.{Bool, false, ◌||◌, List, [], ◌∷◌, length, eqb, ltb, ℕ, zero, suc}
-use Rattle.meaning.specs.Nodes.{Node, top, atom, neg, or, ex, eg, eu, and, implies, ax, af, ag, au, node_at}
+use Rattle.meaning.specs.Nodes.{Node, top, atom, neg, or, ex, eg, eu, node_at}
 use Rattle.meaning.specs.Reference.Tests.{all_below, all_of, any_of}
 
 abbrev pub operands : {A : Type 0} → Node A → List ℕ
@@ -11,12 +11,6 @@ operands (or i j) = i ∷ (j ∷ [])
 operands (ex i) = i ∷ []
 operands (eg i) = i ∷ []
 operands (eu i j) = i ∷ (j ∷ [])
-operands (and i j) = i ∷ (j ∷ [])
-operands (implies i j) = i ∷ (j ∷ [])
-operands (ax i) = i ∷ []
-operands (af i) = i ∷ []
-operands (ag i) = i ∷ []
-operands (au i j) = i ∷ (j ∷ [])
 
 module _ {A : Type 0} (nodes : List (Node A)) where
   abbrev pub earlier_b : Bool

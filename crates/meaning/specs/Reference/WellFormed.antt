@@ -3,7 +3,7 @@ use Rattle.std.specs.Prelude.{Bool, true, not, ◌&&◌, ◌||◌, length, get_o
 use Rattle.meaning.specs.Atoms.{Atom, on_signal}
 use Rattle.meaning.specs.Tests.{any_below, listed}
 use Rattle.meaning.specs.Table.{Table, assignments, owns}
-use Rattle.meaning.specs.Nodes.{Node, top, atom, neg, or, ex, eg, eu, and, implies, ax, af, ag, au, node_at}
+use Rattle.meaning.specs.Nodes.{Node, top, atom, neg, or, ex, eg, eu, node_at}
 use Rattle.meaning.specs.Instrument.{Instrument, components, table}
 use Rattle.meaning.specs.Reference.Tests.{all_below, all_of}
 use Rattle.meaning.specs.Reference.Nodes.{earlier_b}
@@ -40,12 +40,6 @@ named_b I (or i j) = true
 named_b I (ex i) = true
 named_b I (eg i) = true
 named_b I (eu i j) = true
-named_b I (and i j) = true
-named_b I (implies i j) = true
-named_b I (ax i) = true
-named_b I (af i) = true
-named_b I (ag i) = true
-named_b I (au i j) = true
 
 abbrev pub accepted_b : Instrument → Bool
 accepted_b I =

@@ -18,14 +18,13 @@ decreases-loop succ outs outputs compared states inputs count needed nodes marks
 -- the node has its place in the array
 room : (i : tie.In-loop invariant-loop decreases-loop) → i.before.loop.k < 24
 room i =
-    let l = i.before.before.before.before.before.before.requires.3.1 in
+    let l = i.before.before.before.before.before.before.requires.2.1 in
     omega (arith, i.loop-test.true, l.long, l.room)
 
 node-relation-requires : tie.Need-node-relation-requires invariant-loop decreases-loop
 node-relation-requires c κs =
-    let q = c.before.before.before.before.before.before in
-    let p = q.before.before.before.before.before.before.before.before.before.before.requires in
-    (p.0, p.1, p.2.each q.before.place.result q.before.place.ensures.0, p.2.each q.place2.result q.place2.ensures.0)
+    let s = c.before.before.before.before.before.before.before.before.before.before.before.before.before.before.before in
+    (s.requires.0, s.requires.1)
 
 loop-again : tie.Need-loop-preserved invariant-loop decreases-loop
 loop-again c =
@@ -35,9 +34,9 @@ loop-again c =
     let s = l.before.before.before.before.before in
     ⊎_elim
     (λ h.
-    rw h.10
+    rw h.9
     (relating_in _ _ _ _ _ _ _ _ _ _ s.requires.0.steps.most_states_lem l.loop.k l.loop.relations _ i.loop-test.true
-    (sym h.0.taken ∙ m.member.ensures) h.1.result h.2.result h.1.ensures.1 h.2.ensures.1 h.9.ensures l.loop.invariant))
+    (sym h.0.taken ∙ m.member.ensures) h.1.result h.2.result h.1.ensures.1 h.2.ensures.1 (h.8.ensures _) l.loop.invariant))
     (λ h.
     rw h.1
     (relating_out _ _ _ _ _ _ _ _ _ _ l.loop.k l.loop.relations i.loop-test.true (sym h.0.left ∙ m.member.ensures) l.loop.invariant))
@@ -64,15 +63,13 @@ formula-relations-spec =
     (λ c. omega (arith, room c.before.before.before.before.before))
     (λ c. omega (arith, c.before.before.before.place.ensures.0))
     (λ c. c.before.before.before.place.ensures.0)
-    (λ c. omega (arith, c.before.before.before.place2.ensures.0))
-    (λ c. c.before.before.before.place2.ensures.0)
-    (λ c. omega (arith, c.before.before.before.before.before.place.ensures.0))
-    (λ c. c.before.before.before.before.before.place.ensures.0)
-    (λ c. omega (arith, c.before.before.before.before.before.place2.ensures.0))
-    (λ c. c.before.before.before.before.before.place2.ensures.0)
+    (λ c. omega (arith, c.before.before.before.before.place.ensures.0))
+    (λ c. c.before.before.before.before.place.ensures.0)
+    (λ c. omega (arith, c.before.before.before.before.place2.ensures.0))
+    (λ c. c.before.before.before.before.place2.ensures.0)
     node-relation-requires
-    (λ c. omega (arith, room c.before.before.before.before.before.before.before.before.before.before.before))
-    (λ c. omega (arith, room c.before.before.before.before.before.before.before.before.before.before.before))
+    (λ c. omega (arith, room c.before.before.before.before.before.before.before.before.before.before))
+    (λ c. omega (arith, room c.before.before.before.before.before.before.before.before.before.before))
     (λ c. omega (arith, room c.before.before))
     (λ c. omega arith)
     loop-again

@@ -11,7 +11,7 @@ use Rattle.marks.proofs.Parts.{Parts, parts, lent_here, lent_limited, lent_input
 use Rattle.compared.proofs.Seen.{compared_seen, outputs_signals}
 use Rattle.subformulas.proofs.Root.{good_below}
 use Rattle.relations.specs.Relations.{Comparing}
-use Rattle.relations.proofs.Parts.{marks_ranged, parts_related, needed_closed, roots_related}
+use Rattle.relations.proofs.Parts.{parts_related, needed_closed, roots_related}
 use Rattle.relations.proofs.roots_relation.Statement.{statement}
 use Rattle.relations.proofs.roots_relation.Tie as tie
 
@@ -36,8 +36,7 @@ formula-relations-requires c κs =
     let b = c.before.before.before.before.before.before.before in
     let (t, k, m, u, e) = b.before.before.before.before.requires in
     let d = m.describes in
-    let ranged = marks_ranged m _ (e.states_are ∙ sym (table_states t k d _)) in
-    ((at b).lists, omega (arith, (lent_limited d e).most_states_lem), ranged, (k.nodes, lent_listing d e, needed_closed d u))
+    ((at b).lists, omega (arith, (lent_limited d e).most_states_lem), (k.nodes, lent_listing d e, needed_closed d u))
 
 related-by-requires : tie.Need-related-by-requires
 related-by-requires c κs =

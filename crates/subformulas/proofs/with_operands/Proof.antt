@@ -1,12 +1,12 @@
 use mathlib.Core.Path.{refl, sym, ap, ◌∙◌}
-use native.Mathlib.Nat.{le_of_suc-le-suc}
 use native.Mathlib.Omega.{arith}
+use Prim.Native.Nat.{zero-le}
 use Rattle.words.specs.Sets.{insert}
 use Rattle.meaning.specs.Nodes.{neg, or, ex, eg, eu, of_neg, of_or_l, of_or_r, of_ex, of_eg, of_eu_l, of_eu_r}
 use Rattle.instrument.specs.ByKind.{of_known}
 use Rattle.meaning.specs.File.Grammar.{with_all}
 use Rattle.meaning.specs.Reference.Nodes.{operands}
-use Rattle.instrument.proofs.Nodes.{past_plain, unknown_node}
+use Rattle.instrument.proofs.Nodes.{past, unknown_node}
 use Rattle.subformulas.proofs.with_operands.Statement.{statement}
 use Rattle.subformulas.proofs.with_operands.Tie as tie
 
@@ -71,11 +71,13 @@ returns-7 c =
     let a = c.before.before.before.args in
     rw c.before.before.match.keys7 (c.insert7.ensures ∙ ap (λ s. insert s a.node.right) c.before.insert6.ensures)
 
-returns-9 : tie.Need-returns-9
-returns-9 c =
-    let a = c.before.before.args in
-    ap (λ m. of_known a.set m (λ m. with_all a.set (operands m)))
-    (sym (unknown_node a.node.kind a.node.left a.node.left a.node.right c.if1.false))
+returns-8 : tie.Need-returns-8
+returns-8 c =
+    let a = c.before.args in
+    let r = c.match.rest in
+    let z = past (past (past (past (past (past (past zero-le r.0.0.0.0.0.0.1) r.0.0.0.0.0.1) r.0.0.0.0.1) r.0.0.0.1)
+    r.0.0.1) r.0.1) r.1 in
+    ap (λ m. of_known a.set m (λ m. with_all a.set (operands m))) (sym (unknown_node a.node.kind a.node.left a.node.left a.node.right z))
 
 pub with-operands-spec : {M : Type 1} → statement M
 with-operands-spec =
@@ -88,7 +90,6 @@ with-operands-spec =
     insert-requires-5
     insert-requires-6
     insert-requires-7
-    (λ c κs. (c.before.before.requires, past_plain c.before.match.rest, le_of_suc-le-suc c.if1.true))
     returns
     returns-2
     returns-3
@@ -96,5 +97,4 @@ with-operands-spec =
     returns-5
     returns-6
     returns-7
-    (λ c. c.always-operands.ensures)
-    returns-9)
+    returns-8)

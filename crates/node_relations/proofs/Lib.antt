@@ -1,3 +1,0 @@
--- signals; the kinds in "always" form
-pub mod Signals
-pub mod AlwaysRelated
