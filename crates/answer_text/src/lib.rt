@@ -1,4 +1,6 @@
 // The text that is printed for a question about a file (crate answers, specs/Printed): the programs read, call `answer_text` and write what it made.
+#![tactic(auto)]
+
 mod entries; // entries.rt: full and merged words, marks, classes, the listing, a component's bytes
 mod values; // values.rt: the lookup, the verdict, and how to ask
 

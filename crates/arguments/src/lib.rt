@@ -1,5 +1,7 @@
 // What a line of words asks (crate answers, specs/Questions): words with one space between them, and numbers of one to ten decimal digits, at most
 // 2^32 - 1 in value.
+#![tactic(auto)]
+
 mod question; // question.rt: the question of a line
 mod line; // line.rt: the words of a line, and their numbers
 

@@ -1,5 +1,7 @@
 // What the program `query` prints for the questions about stored instrument files, through the same function (second/README.md, Stored cases). Each
 // argument is the name of a case: its file has that name, and its questions, a line each, are in the file with `.ask` after it.
+#![tactic(auto)]
+
 ghost use Rattle.std.specs.Prelude.{◌≤◌, length};
 ghost use Rattle.io.specs.Counts.{IsPrefixLen};
 

@@ -1,4 +1,6 @@
 // Names, number, members and sizes of classes (document 01, Classes).
+#![tactic(auto)]
+
 ghost use Rattle.std.specs.Prelude.{◌≡◌, ◌≤◌, ◌<◌};
 ghost use Rattle.meaning.specs.File.Grammar.{most_states};
 ghost use Rattle.class_names.specs.Names as classes;

@@ -1,5 +1,7 @@
 // A place in an instrument file, and the numbers read from it (document 01, The instrument file). Each contract equates the answer with what
 // the grammar of crate meaning says at that place (specs/File/Grammar), for every sequence of bytes.
+#![tactic(auto)]
+
 ghost use Rattle.std.specs.Prelude.{◌≡◌, ◌+◌, ◌*◌, ◌≤◌, ◌<◌, drop};
 ghost use Rattle.meaning.specs.File.Parser.{found};
 ghost use Rattle.meaning.specs.File.Number.{groups};

@@ -1,4 +1,6 @@
 // Questions whose answers are entries in a lent buffer: full words, marks, class names, merged words.
+#![tactic(auto)]
+
 ghost use Rattle.std.specs.Prelude.{◌≡◌, length};
 ghost use Rattle.meaning.specs.File.Grammar.{Contents, instrument_of};
 ghost use Rattle.meaning.specs.Reference.Answers.{class_names_of, full_count, full_words, mark_words_of, merged_size, merged_words};

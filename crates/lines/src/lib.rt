@@ -1,5 +1,7 @@
 // The lines that the programs print, as bytes: in a lent buffer, or by value where there is one line alone. The specs of crate `answers` define
 // them (specs/Lines).
+#![tactic(auto)]
+
 mod pieces; // pieces.rt: each word, each line
 
 ghost use Rattle.std.specs.Prelude.{◌≡◌, ◌+◌, ◌*◌, ◌<◌};

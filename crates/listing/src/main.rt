@@ -1,6 +1,8 @@
 // The listing of the instrument file on standard input (document 01, Verdict and listing): the verdict with its stage, the class names of each
 // component and the sizes of the merged and the full combination, or the one line of a refusal. Where standard input cannot be read, or not to its
 // end, what was read is the file; an empty one is `refused 1`.
+#![tactic(auto)]
+
 use answer_text::{FILE_BYTES, TEXT_BYTES, answer_text};
 use libc::{STDIN_FILENO, STDOUT_FILENO};
 

@@ -1,5 +1,7 @@
 // The lines of the listing, each put into a buffer from a place on; the result is the place after it (document 01, Verdict and listing). The specs of
 // crate `answers` define their bytes.
+#![tactic(auto)]
+
 ghost use Rattle.std.specs.Prelude.{◌++◌, ℕ, ◌+◌, ◌≤◌, ◌<◌, length, get_or};
 ghost use Rattle.meaning.specs.File.Grammar.{limits, most_states};
 ghost use Rattle.answers.specs.Listing.{decimal, space, line_end, verdict_word, stage_word};

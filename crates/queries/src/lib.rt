@@ -1,6 +1,7 @@
 // The questions of document 01 over the bytes of a file. No function here asks anything of its caller: bad input is refused by its number,
 // faults of the file first. Each contract has the clause `answer`, which equates the result and the lent buffer with what crate answers defines
 // from the file's bytes, and, where there is more to say, `meaning`: what an accepted answer means by paths.
+#![tactic(auto)]
 
 mod listed; // listed.rt: the listing
 

@@ -1,5 +1,7 @@
 // One question about an instrument file, which is read from standard input: `query full`, `query lookup 0 1 0 0` (README.md, Questions). The program
 // puts its arguments into a line, reads, has the text made by crate answer_text, and writes it.
+#![tactic(auto)]
+
 ghost use Rattle.std.specs.Prelude.{◌≤◌, length};
 ghost use Rattle.io.specs.Counts.{IsPrefixLen};
 

@@ -1,5 +1,7 @@
 // The relation of EG and EU on one component (document 01, Classes): the largest inside the operands' relation that keeps the rule by itself.
 // It and its converse are cut down together, row by row, and only pairs whose test may have changed are looked at again (specs/Again.antt).
+#![tactic(auto)]
+
 mod again; // again.rt: predecessors, pairs that are noted, pairs that fail
 mod settle; // settle.rt: rows looked at until none is left
 

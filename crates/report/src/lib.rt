@@ -1,4 +1,6 @@
 // The text of the listing program, and its copy into a lent buffer (document 01, Verdict and listing).
+#![tactic(auto)]
+
 ghost use Rattle.std.specs.Prelude.{◌≡◌, List, ℕ, ◌+◌, ◌≤◌, length};
 ghost use Rattle.std.proofs.lemmas.List.Edits.{sets};
 ghost use Rattle.meaning.specs.File.Grammar.{Contents, instrument_of};

@@ -1,4 +1,6 @@
 // The classes at document 01's root, the last node.
+#![tactic(auto)]
+
 ghost use Rattle.std.specs.Prelude.{◌≡◌, ◌≤◌, length};
 ghost use Rattle.meaning.specs.File.Grammar.{Contents, instrument_of};
 ghost use Rattle.meaning.specs.Reference.Answers.{class_names_of};

@@ -1,4 +1,6 @@
 // Merged words and the lookup at document 01's root, the last node.
+#![tactic(auto)]
+
 ghost use Rattle.std.specs.Prelude.{◌≡◌, List, ℕ};
 ghost use Rattle.meaning.specs.File.Grammar.{Contents, instrument_of};
 ghost use Rattle.meaning.specs.Reference.Answers.{merged_words};

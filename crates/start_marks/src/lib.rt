@@ -1,4 +1,6 @@
 // What the marks at the root say of all starts (document 01, Verdict and listing).
+#![tactic(auto)]
+
 ghost use Rattle.std.specs.Prelude.{◌≡◌, List, ℕ, ◌+◌, ◌*◌, ◌≤◌, ◌<◌, length};
 ghost use Rattle.meaning.specs.File.Grammar.{Contents, instrument_of, limits};
 ghost use Rattle.meaning.specs.Tests.{any_below};

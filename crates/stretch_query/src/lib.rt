@@ -1,4 +1,6 @@
 // A component's own part of the file (document 01, The instrument file).
+#![tactic(auto)]
+
 ghost use Rattle.std.specs.Prelude.{◌≡◌, ◌≢◌, []};
 ghost use Rattle.meaning.specs.File.Stretches.{located};
 ghost use Rattle.answers.specs.Outcomes.{component_bytes_of};

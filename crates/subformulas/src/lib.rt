@@ -1,4 +1,6 @@
 // The nodes that roots need: themselves and the nodes under them, as a set, bit k for node k. specs/Under.antt defines the result.
+#![tactic(auto)]
+
 ghost use Rattle.std.specs.Prelude.{◌≡◌, List};
 ghost use Rattle.meaning.specs.Atoms.{Atom};
 ghost use Rattle.meaning.specs.Nodes as formula;

@@ -1,4 +1,6 @@
 // Text put piece by piece into a lent buffer, and a text by value: bytes and how many of them there are.
+#![tactic(auto)]
+
 ghost use Rattle.std.specs.Prelude.{◌≡◌, [], ◌∷◌, ◌+◌, ◌≤◌, length};
 ghost use Rattle.answers.specs.Listing.{decimal, digits_of, most_digits};
 ghost use Rattle.text.specs.Texts.{Put, Room, text_of};

@@ -1,4 +1,6 @@
 // Questions whose answer is a value: the lookup and the verdict.
+#![tactic(auto)]
+
 ghost use Rattle.std.specs.Prelude.{◌≡◌, Bool, List, [], ◌∷◌, eqb, ltb, get_or, ℕ, ◌≤◌, ◌<◌};
 ghost use Rattle.meaning.specs.File.Number.{choose};
 ghost use Rattle.meaning.specs.File.Grammar.{Contents, instrument_of, limits};

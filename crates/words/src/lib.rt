@@ -1,5 +1,7 @@
 // Sets of signals and of nodes as words of 32 bits: t is in the set w where bit t of w is 1. Each contract equates the result with a definition of
 // specs/Sets.antt; what that definition means for membership is proved once, for every width, in proofs/Members.antt.
+#![tactic(auto)]
+
 ghost use Rattle.std.specs.Prelude.{◌≡◌, ◌≤◌, ◌<◌, length};
 ghost use Rattle.words.specs.Sets as sets;
 ghost use Rattle.words.specs.First.{First, zeros};
