@@ -134,6 +134,7 @@ numbers q file r e = listed_at (sheet q file r e)
         let t = and_l (test m) (all_of test ms) h in
         rw e (leb→le 1 m (and_l (leb 1 m) (leb m 13) t), leb→le m 13 (and_r (leb 1 m) (leb m 13) t))
     own (m ∷ ms) h (inr e) = own ms (and_r (test m) (all_of test ms) h) e
+    own [] h x = elim x [ ]
 
     listed_at : OnSheet q r → Within 1 13 r
     listed_at (inl w) = (w.0, omega (arith, w.1))
