@@ -19,7 +19,7 @@ use Rattle.meaning.proofs.Basic.Booleans.{and_in, and_l, and_r, dec-T, or_l, or_
 use Rattle.meaning.proofs.Basic.Bounded.{any_in, any_out}
 use Rattle.meaning.specs.Reference.Truth.{up_to}
 use Rattle.meaning.proofs.Meaning.Full.{length_up_to}
-use Rattle.classes.specs.Rows.{rel, rows}
+use Rattle.classes.specs.Rows.{rel}
 use Rattle.meaning.specs.File.Grammar.{most_states}
 use Rattle.state_words.specs.Width.{state_bits}
 use Rattle.classes.specs.Changed.{Changed}
