@@ -7,6 +7,7 @@ use Rattle.listing_lines.proofs.class_line.Goals as goal
 
 pub numbered-label-requires : goal.numbered-label-requires
 numbered-label-requires c =
+    -- room for the label and what follows it
     let room = room_three component_label (decimal c.args.c) classes_label (names_text c.args.names.now ++ line_end) c.requires in
     room_first _ _ room
 

@@ -6,6 +6,7 @@ use Rattle.listing_lines.proofs.size_line.Goals as goal
 
 pub numbered-label-requires : goal.numbered-label-requires
 numbered-label-requires c =
+    -- room for the label and what follows it
     let room = room_three merged_label (decimal c.args.merged) of_label (decimal c.args.full ++ line_end) c.requires in
     room_first _ _ room
 
