@@ -11,7 +11,7 @@ ghost use Rattle.cursor.specs.Carried.{carried};
 ghost use Rattle.cursor.specs.Width.{number_end};
 
 // Why a call is refused, in the order of document 01's numbers, 1 to 13 (14 is not used: document 02, 6/14).
-#[derive(Drop)]
+#[derive(Clone, Copy)]
 pub enum Refusal {
     Ended,
     Form,

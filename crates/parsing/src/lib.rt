@@ -7,7 +7,7 @@ pub mod step; // step.rt: what is read so far
 use cursor::Refusal;
 
 // Whether a file is accepted, or why it is not.
-#[derive(Drop)]
+#[derive(Clone, Copy)]
 pub enum Outcome {
     Accepted,
     Refused(Refusal),

@@ -7,7 +7,7 @@ use cursor::Refusal;
 use instrument::Instrument;
 
 // The instrument of what is read so far and the place reached, or why the file is refused.
-#[derive(Drop)]
+#[derive(Clone, Copy)]
 pub struct Step {
     pub outcome: Outcome,
     pub at: usize,
