@@ -7,7 +7,7 @@ use lib.Pow.{pow_pos}
 use native.Mathlib.Decide.{dec_lt}
 use native.Mathlib.Nat.{mod-eq_of_lt}
 use native.Mathlib.Omega.{arith}
-use Prim.Native.Nat.{ℕ, ◌+◌, ◌-◌, ◌*◌, ◌%◌, ◌≤◌, ◌<◌}
+use Prim.Native.Nat.{ℕ, ◌+◌, ◌*◌, ◌%◌, ◌≤◌, ◌<◌}
 use Rattle.meaning.specs.Atoms.{Atom, on_signal}
 use Rattle.meaning.specs.Formula as formula
 use Rattle.meaning.specs.Formula.{Formula}
