@@ -1,5 +1,5 @@
 -- The classes of every component's states at a list of roots (document 01, Classes: at the root).
-use Rattle.std.specs.Prelude.{◌≡◌, List, get_or, replicate, ℕ, zero, suc, ◌+◌, ◌-◌}
+use Rattle.std.specs.Prelude.{◌≡◌, List, get_or, replicate, ℕ, zero, suc, ◌+◌}
 use Rattle.std.proofs.lemmas.List.Edits.{sets}
 use Rattle.meaning.specs.Atoms.{Atom}
 use Rattle.meaning.specs.Table.{Table}

@@ -1,0 +1,19 @@
+use Rattle.united.proofs.Inputs.{inputs_ready}
+use Rattle.compared.proofs.Seen.{signals_read}
+use Rattle.marks.proofs.Parts.{lent_all}
+use Rattle.partitions.proofs.marked_classes.Goals as goal
+
+pub read_signals-read-requires : goal.read_signals-read-requires
+read_signals-read-requires c =
+    let ((k, m), good) = c.requires in
+    inputs_ready _ k m.describes
+
+pub lent_classes-requires : goal.lent_classes-requires
+lent_classes-requires c =
+    let ((k, m), good) = c.requires in
+    ((_, k, m, signals_read _ k m.describes _ c.read_signals-read.ensures, lent_all _), good)
+
+pub returns : goal.returns
+returns c =
+    λ k m.
+    c.lent_classes.ensures _ k m (signals_read _ k m.describes _ c.read_signals-read.ensures) (lent_all _)
