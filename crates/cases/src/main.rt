@@ -6,20 +6,18 @@ ghost use Rattle.std.specs.Prelude.{◌≤◌, length};
 ghost use Rattle.io.specs.Counts.{IsPrefixLen};
 
 use answer_text::{FILE_BYTES, TEXT_BYTES, answer_text};
-use libc::{STDOUT_FILENO, close};
-
-fn write(bytes: &[u8]) {
-    io::write_all(STDOUT_FILENO, bytes);
-}
+use host::write;
+use std::fs::File;
+use std::rt::{Env, Files};
 
 // "query full", and the text for that question.
-fn print_answer(question: &[u8], file: &[u8]) {
-    write(b"query ");
-    write(question);
-    write(b"\n");
+fn print_answer(rt: &impl Print, question: &[u8], file: &[u8]) {
+    write(rt, b"query ");
+    write(rt, question);
+    write(rt, b"\n");
     let mut text = [0u8; TEXT_BYTES];
     let n = answer_text(question, file, &mut text);
-    write(&text[..n]);
+    write(rt, &text[..n]);
 }
 
 // Where the line that begins at a place ends.
@@ -37,35 +35,38 @@ fn line_end(lines: &[u8], from: usize) -> usize
     at
 }
 
-fn print_case(name: &[u8], file: &[u8], questions: &[u8]) {
-    write(b"case ");
-    write(name);
-    write(b"\n");
+fn print_case(rt: &impl Print, name: &[u8], file: &[u8], questions: &[u8]) {
+    write(rt, b"case ");
+    write(rt, name);
+    write(rt, b"\n");
     let mut at: usize = 0;
     while at < questions.len() {
         let end = line_end(questions, at);
-        print_answer(&questions[at..end], file);
+        print_answer(rt, &questions[at..end], file);
         at = end + 1;
     }
 }
 
 // The first bytes of a file; none where it cannot be read.
-fn read_file(path: &[u8], out: &mut [u8]) -> usize
+fn read_file(rt: &impl Files, path: &[u8], out: &mut [u8]) -> usize
     ensures { IsPrefixLen result out.new }
 {
-    let fd = os::open_read(path);
-    let n = io::read_full(fd, out);
-    close(fd);
-    n
+    let Ok(path) = str::from_utf8(path) else {
+        return 0;
+    };
+    match File::open(rt, path) {
+        Ok(mut file) => host::read_full(&mut file, out),
+        Err(_) => 0,
+    }
 }
 
 // The case of this name, whose questions have 16,384 bytes at most.
-fn read_case(name: &[u8], asked: &[u8]) {
+fn read_case(rt: &(impl Files + Print), name: &[u8], asked: &[u8]) {
     let mut file = [0u8; FILE_BYTES];
-    let n = read_file(name, &mut file);
+    let n = read_file(rt, name, &mut file);
     let mut questions = [0u8; 16384];
-    let m = read_file(asked, &mut questions);
-    print_case(name, &file[..n], &questions[..m]);
+    let m = read_file(rt, asked, &mut questions);
+    print_case(rt, name, &file[..n], &questions[..m]);
 }
 
 // The first n bytes with `.ask` after them.
@@ -81,30 +82,30 @@ fn asked_name(name: [u8; 20], n: usize) -> [u8; 20]
 }
 
 // The case whose name is the first n bytes.
-fn named_case(name: [u8; 20], n: usize)
+fn named_case(rt: &(impl Files + Print), name: [u8; 20], n: usize)
     requires { n ≤ 16 }
 {
     let asked = asked_name(name, n);
     let end = n + 4;
-    read_case(&name[0..n], &asked[0..end]);
+    read_case(rt, &name[0..n], &asked[0..end]);
 }
 
 // The case that argument i names.
-fn argued_case(i: usize) {
+fn argued_case(rt: &(impl Env + Files + Print), i: usize) {
     let mut name = [0u8; 20];
-    let n = os::arg(i, &mut name);
+    let n = host::argument(rt, i, &mut name);
     if 16 < n {
-        write(b"a name has at most 16 characters\n");
+        write(rt, b"a name has at most 16 characters\n");
         return;
     }
-    named_case(name, n);
+    named_case(rt, name, n);
 }
 
-fn main() {
-    let count = os::arg_count();
-    let mut i: usize = 1;
-    while i < count {
-        argued_case(i);
-        i += 1;
+fn main(rt: HostRuntime) {
+    for i in 1..usize::MAX {
+        if !host::has_argument(&rt, i) {
+            break;
+        }
+        argued_case(&rt, i);
     }
 }

@@ -4,12 +4,11 @@
 #![tactic(auto)]
 
 use answer_text::{FILE_BYTES, TEXT_BYTES, answer_text};
-use libc::{STDIN_FILENO, STDOUT_FILENO};
 
-fn main() {
+fn main(rt: HostRuntime) {
     let mut file = [0u8; FILE_BYTES];
-    let n = io::read_full(STDIN_FILENO, &mut file);
+    let n = host::read_full(&mut rt.reader(), &mut file);
     let mut text = [0u8; TEXT_BYTES];
     let m = answer_text(b"listing", &file[..n], &mut text);
-    io::write_all(STDOUT_FILENO, &text[..m]);
+    host::write(&rt, &text[..m]);
 }

@@ -7,55 +7,55 @@ ghost use Rattle.io.specs.Counts.{IsPrefixLen};
 
 use answer_text::{FILE_BYTES, TEXT_BYTES, answer_text};
 use arguments::Question;
-use libc::{STDIN_FILENO, STDOUT_FILENO};
+use std::rt::Env;
 
 // Argument i put into the line at a place; the place after it. One that does not fit is none.
-fn append_argument(line: &mut [u8], at: usize, i: usize) -> usize
+fn append_argument(rt: &impl Env, line: &mut [u8], at: usize, i: usize) -> usize
     requires { at ≤ length line.old }
     ensures { result ≤ length line.new }
 {
-    at + os::arg(i, &mut line[at..])
+    at + host::argument(rt, i, &mut line[at..])
 }
 
 // The arguments after the program's name in front of the line, with one space between them. No question is longer than the line: what does not
 // fit is none.
-fn argument_line(line: &mut [u8]) -> usize
+fn argument_line(rt: &impl Env, line: &mut [u8]) -> usize
     ensures { IsPrefixLen result line.new }
 {
-    let count = os::arg_count();
-    let mut at = append_argument(line, 0, 1);
-    let mut i: usize = 2;
-    while i < count {
+    let mut at = append_argument(rt, line, 0, 1);
+    for i in 2..usize::MAX {
+        if !host::has_argument(rt, i) {
+            break;
+        }
         if line.len() <= at {
             return 0;
         }
         line[at] = b' ';
-        at = append_argument(line, at + 1, i);
-        i += 1;
+        at = append_argument(rt, line, at + 1, i);
     }
     at
 }
 
 // The first bytes of standard input; none are read for what is no question.
-fn read_for(line: &[u8], file: &mut [u8; FILE_BYTES]) -> usize
+fn read_for(rt: &impl Input, line: &[u8], file: &mut [u8; FILE_BYTES]) -> usize
     ensures { IsPrefixLen result file.new }
 {
     if let Question::Unknown = arguments::question_of(line) {
         return 0;
     }
-    io::read_full(STDIN_FILENO, file)
+    host::read_full(&mut rt.reader(), file)
 }
 
-fn print(line: &[u8]) {
+fn print(rt: &(impl Input + Print), line: &[u8]) {
     let mut file = [0u8; FILE_BYTES];
-    let n = read_for(line, &mut file);
+    let n = read_for(rt, line, &mut file);
     let mut text = [0u8; TEXT_BYTES];
     let m = answer_text(line, &file[..n], &mut text);
-    io::write_all(STDOUT_FILENO, &text[..m]);
+    host::write(rt, &text[..m]);
 }
 
-fn main() {
+fn main(rt: HostRuntime) {
     let mut line = [0u8; 256];
-    let n = argument_line(&mut line);
-    print(&line[..n]);
+    let n = argument_line(&rt, &mut line);
+    print(&rt, &line[..n]);
 }
