@@ -10,7 +10,7 @@ use Rattle.words.specs.Sets.{has}
 use Rattle.meaning.specs.Atoms.{Atom, on_signal}
 use Rattle.meaning.specs.Tests.{any_below}
 use Rattle.meaning.specs.Table.{Table, assignments, owns, drives, reading}
-use Rattle.meaning.specs.Nodes.{Node, top, atom, neg, or, ex, eg, eu, node_at}
+use Rattle.meaning.specs.Nodes.{Node, node_at}
 use Rattle.meaning.specs.Combination.{high, count, index}
 use Rattle.meaning.specs.Seen.{value}
 use Rattle.meaning.proofs.Rules.{Keeps, node_keeps}
