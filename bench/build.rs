@@ -1,4 +1,4 @@
-//! Links the proved archive, which `rt staticlib pinthar` writes, and compiles the plain side a
+//! Links the proved archive, which `rt lib` makes in the folder crates/pinthar, and compiles the plain side a
 //! second time, as the crate `native`, for the processor of this machine. Checking needs no
 //! archive, building does.
 
@@ -7,13 +7,11 @@ use std::path::Path;
 use std::process::Command;
 
 fn link_archive(here: &Path) {
-    let folder = here.join("../target/staticlib");
+    let folder = here.join("../crates/pinthar/out");
     let archive = folder.join("libpinthar.a");
     if !archive.exists() {
         let archive = archive.display();
-        println!(
-            "cargo:warning={archive} is missing: run `rt staticlib pinthar` in the repository"
-        );
+        println!("cargo:warning={archive} is missing: run `rt lib` in the folder crates/pinthar");
     }
     println!("cargo:rustc-link-search=native={}", folder.display());
     println!("cargo:rerun-if-changed={}", archive.display());

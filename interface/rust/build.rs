@@ -1,4 +1,4 @@
-//! Links target/staticlib/libpinthar.a, which `rt staticlib pinthar` makes in the repository. The variable
+//! Links crates/pinthar/out/libpinthar.a, which `rt lib` makes in the folder crates/pinthar. The variable
 //! PINTHAR_ARCHIVE names another folder that has it. Checking this crate needs no archive, building it does.
 
 use std::env;
@@ -9,14 +9,12 @@ fn main() {
         PathBuf::from(env::var("CARGO_MANIFEST_DIR").expect("cargo tells this package's folder"));
     let folder = match env::var("PINTHAR_ARCHIVE") {
         Ok(given) => PathBuf::from(given),
-        Err(_) => here.join("../../target/staticlib"),
+        Err(_) => here.join("../../crates/pinthar/out"),
     };
     let archive = folder.join("libpinthar.a");
     if !archive.exists() {
         let archive = archive.display();
-        println!(
-            "cargo:warning={archive} is missing: run `rt staticlib pinthar` in the repository"
-        );
+        println!("cargo:warning={archive} is missing: run `rt lib` in the folder crates/pinthar");
     }
     println!("cargo:rerun-if-env-changed=PINTHAR_ARCHIVE");
     println!("cargo:rerun-if-changed={}", archive.display());

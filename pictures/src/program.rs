@@ -10,13 +10,13 @@ use crate::answers::Answers;
 pub const VARIABLE: &str = "PICTURES_QUERY";
 
 /// What to do without a program that answers.
-const ADVICE: &str = "run `rt check query` in the repository's folder to make target/bin/query, \
+const ADVICE: &str = "run `rt run` in the folder crates/query to make crates/query/out/query, \
     or name a program with --query or PICTURES_QUERY";
 
 /// The program of this repository.
 pub fn usual_program() -> PathBuf {
     let repository = Path::new(env!("CARGO_MANIFEST_DIR")).parent();
-    repository.unwrap_or(Path::new(".")).join("target/bin/query")
+    repository.unwrap_or(Path::new(".")).join("crates/query/out/query")
 }
 
 /// Classes, marks and verdict of the file.

@@ -5,8 +5,13 @@ use std::io::Write;
 use std::os::unix::fs::PermissionsExt;
 use std::path::{Path, PathBuf};
 use std::process::{Command, Output, Stdio};
+use std::sync::Mutex;
 
 use second::examples::CHAIN;
+
+/// Held while a script is written and while a process starts. One that starts in between has the script open for a
+/// moment, in which the script cannot be run.
+static STARTS: Mutex<()> = Mutex::new(());
 
 /// A new empty folder.
 fn folder(name: &str) -> PathBuf {
@@ -23,6 +28,7 @@ fn program(folder: &Path, classes: &str, marks: &str, verdict: &str) -> PathBuf 
         "#!/bin/sh\ncat > /dev/null\ncase $1 in\nclasses) echo '{classes}';;\n\
          marks) echo '{marks}';;\nverdict) echo '{verdict}';;\nesac\n"
     );
+    let _held = STARTS.lock();
     fs::write(&path, text).expect("a script");
     fs::set_permissions(&path, fs::Permissions::from_mode(0o755)).expect("permissions");
     path
@@ -35,7 +41,9 @@ fn run(words: &[&str], variable: Option<&Path>, input: &[u8]) -> Output {
         command.env("PICTURES_QUERY", program);
     }
     command.stdin(Stdio::piped()).stdout(Stdio::piped()).stderr(Stdio::piped());
+    let held = STARTS.lock();
     let mut child = command.spawn().expect("the command");
+    drop(held);
     let _ = child.stdin.take().expect("its input").write_all(input);
     child.wait_with_output().expect("its output")
 }
@@ -86,7 +94,7 @@ fn without_the_program_it_says_what_to_run() {
     let place = folder("without");
     let output = run(&[place.to_str().expect("a path")], Some(&place.join("none")), &CHAIN);
     assert_eq!(output.status.code(), Some(1));
-    assert!(message(&output).contains("rt check query"));
+    assert!(message(&output).contains("rt run"));
 }
 
 #[test]
