@@ -1,6 +1,6 @@
 /* The questions of document 01 about an instrument file, for C.
  *
- * Link with target/staticlib/libpinthar.a, which `rt staticlib pinthar` makes. The functions allocate nothing, keep nothing from call to
+ * Link with crates/pinthar/out/libpinthar.a, which `rt lib` makes in crates/pinthar. The functions allocate nothing, keep nothing from call to
  * call and may run on several threads at once; each is proved to answer as its contract in crates/pinthar says, for all bytes.
  *
  * Slices. A file is a pointer and the number of its bytes; a lent buffer is a pointer and the number of its entries. An empty one may have
