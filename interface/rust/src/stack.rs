@@ -4,7 +4,7 @@ use std::cell::Cell;
 use std::panic::resume_unwind;
 use std::thread::{scope, Builder};
 
-/// For one call. The deepest call measured took 4.4 MB (interface/README.md).
+/// For one call. The deepest call measured took 4.5 MB (interface/README.md).
 const CALL: usize = 8 << 20;
 
 /// For the work around the calls.
