@@ -8,7 +8,6 @@ use Prim.Native.Nat.{◌<◌, suc, zero, ℕ}
 use Rattle.words.specs.Sets.{built, digit}
 use Rattle.meaning.specs.Atoms.{Atom, on_signal}
 use Rattle.meaning.specs.Combination.{State, Step, Truth, index}
-use Rattle.meaning.specs.File.Grammar.{nodes}
 use Rattle.meaning.specs.Formula.{Formula, ex, top}
 use Rattle.meaning.specs.Instrument.{Accepted, Instrument, components, root_formula, table}
 use Rattle.meaning.specs.Merged.{merged_tables}

@@ -20,7 +20,7 @@ use Rattle.meaning.specs.Formula.{Formula}
 use Rattle.meaning.specs.Instrument.{IsStart, Partner, WellFormed, root_formula, root_node, table}
 use Rattle.meaning.specs.Marks.{Fail, Move, Pass}
 use Rattle.meaning.specs.Merged.{MergedOf, merged_count_of, merged_tables}
-use Rattle.meaning.specs.Nodes.{Beneath, Earlier, atom, formula_at, of_eg, through}
+use Rattle.meaning.specs.Nodes.{Beneath, Earlier, formula_at, of_eg, through}
 use Rattle.meaning.specs.Paths.{IsPath}
 use Rattle.meaning.specs.Reference.Verdict.{root_classes}
 use Rattle.meaning.specs.Relation.{Rel}

@@ -1,8 +1,7 @@
 -- The relation at every node: tested, inside the relations of the nodes under it, and an equivalence. Transitivity tells the clauses of
 -- the rule apart by the marks, which related states share.
-use mathlib.Core.Path.{refl, subst}
+use mathlib.Core.Path.{subst}
 use Prim.Native.Nat.{◌<◌, ℕ}
-use Rattle.meaning.specs.File.Grammar.{whole}
 use Rattle.meaning.specs.Formula.{Formula, atom, eg, eu, ex, neg, or, top}
 use Rattle.meaning.specs.Marks.{Fail, Pass}
 use Rattle.meaning.specs.Reference.Relation.{rel_b}

@@ -11,7 +11,6 @@ use Rattle.meaning.proofs.Basic.Booleans.{and_in, conj}
 use Rattle.meaning.proofs.Basic.Decides.{Decides, DecidesPairs}
 use Rattle.meaning.proofs.Basic.Rounds.{greatest_out, pairs_below}
 use Rattle.meaning.proofs.Classes.Rules.{Through, rule_flip, rule_in, rule_map, rule_out, rule_refl}
-use Rattle.meaning.proofs.Marks.Sets.{here}
 
 module _ (t : Table) (compared : ℕ → ℕ) where
   -- the largest relation keeps the rule itself

@@ -5,7 +5,6 @@ use native.Mathlib.Omega.{arith}
 use Prim.Native.Nat.{◌<◌, ◌≤◌, ℕ}
 use Rattle.meaning.specs.Classes.{ClassNames}
 use Rattle.meaning.specs.Reference.Relation.{class_name}
-use Rattle.meaning.specs.Reference.Tests.{lowest}
 use Rattle.meaning.specs.Table.{Table}
 use Rattle.meaning.proofs.Basic.Bounded.{any_in, lowest_hit, lowest_le}
 use Rattle.meaning.proofs.Basic.Decides.{DecidesPairs}

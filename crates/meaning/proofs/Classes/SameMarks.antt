@@ -9,7 +9,6 @@ use Rattle.meaning.specs.Formula.{Formula, atom, eg, eu, ex, neg, or, top}
 use Rattle.meaning.specs.Marks.{Fail, Largest, Least, Meets, Move, Must, Pass, Stays}
 use Rattle.meaning.specs.Relation.{KeepsRule, Rel, Rule, alike, failed, passed}
 use Rattle.meaning.specs.Table.{Successor, Table, Total, assignments}
-use Rattle.meaning.specs.Verdict.{fails}
 use Rattle.meaning.specs.View.{View}
 use Rattle.meaning.proofs.Basic.Decides.{Decides, decide}
 use Rattle.meaning.proofs.Marks.Decided.{fail_decides, pass_decides}

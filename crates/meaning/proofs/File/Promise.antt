@@ -9,7 +9,6 @@ use native.Mathlib.Decide.{dec_lt}
 use native.Mathlib.Omega.{arith}
 use Prim.Native.Nat.{◌<◌, ℕ}
 use Rattle.meaning.specs.Atoms.{Atom, on_signal}
-use Rattle.meaning.specs.Combination.{driven}
 use Rattle.meaning.specs.Instrument.{Accepted, Instrument, IsStart, WellFormed, components, table}
 use Rattle.meaning.specs.Nodes.{Node, atom, node_at}
 use Rattle.meaning.specs.Reference.Marks.{on_b}

@@ -8,8 +8,8 @@ use native.Mathlib.Omega.{arith}
 use Prim.Native.Nat.{◌%◌, ◌*◌, ◌+◌, ◌/◌, ◌<◌, ◌^◌, ◌≤◌, suc, zero, ℕ}
 use Rattle.words.specs.Sets.{has}
 use Rattle.meaning.specs.Atoms.{Atom, on_signal}
-use Rattle.meaning.specs.File.Grammar.{Component, Contents, Limits, as_written, between, binary, component, components, driven_by, earlier, less_than}
-use Rattle.meaning.specs.File.Grammar.{named, node, nodes, number, operands, signal, signals, start, start_state, unary, whole, with_all}
+use Rattle.meaning.specs.File.Grammar.{Component, Contents, Limits, as_written, between, binary, component, driven_by, earlier, less_than}
+use Rattle.meaning.specs.File.Grammar.{named, node, number, operands, signal, signals, start, start_state, unary, whole, with_all}
 use Rattle.meaning.specs.File.Number.{choose, groups, with_higher}
 use Rattle.meaning.specs.File.Parser.{Got, Parser, demand, done, fault, found, list_of, on, repeat}
 use Rattle.meaning.specs.Nodes.{Node, atom, eg, eu, ex, neg, or, top}

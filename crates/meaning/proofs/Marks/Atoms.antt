@@ -19,7 +19,6 @@ use Rattle.meaning.proofs.Basic.Bounded.{any_in, any_out, any_same}
 use Rattle.meaning.proofs.File.Tables.{drives_owns}
 use Rattle.meaning.proofs.Marks.Compared.{compared_means}
 use Rattle.meaning.proofs.Marks.Laws.{Fits, Lawful, Local, Shows, Sound}
-use Rattle.meaning.proofs.Marks.Sets.{here}
 
 module _ (compared : ℕ → ℕ) (t : Table) where
   abbrev κ : View Atom

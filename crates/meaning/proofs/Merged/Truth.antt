@@ -9,7 +9,6 @@ use Rattle.meaning.specs.Classes.{class_number, lowest_of}
 use Rattle.meaning.specs.Combination.{State, Step, Truth}
 use Rattle.meaning.specs.Formula.{Formula, eg}
 use Rattle.meaning.specs.Merged.{MergedOf, MergedTruth, class_numbers, guard, lowest_states, merged_tables}
-use Rattle.meaning.specs.Reference.Truth.{part}
 use Rattle.meaning.specs.Relation.{Rel}
 use Rattle.meaning.specs.Table.{Table}
 use Rattle.meaning.specs.View.{View}

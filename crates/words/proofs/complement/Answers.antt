@@ -1,4 +1,3 @@
-use Rattle.std.proofs.Common.{arith}
 use Rattle.words.proofs.Built.{complement_is}
 use Rattle.words.proofs.complement.Goals as goal
 
