@@ -1,4 +1,4 @@
--- The rules, applied to the marks of the operands, give the marks of the formula (meaning's passB and failB).
+-- The rules, applied to the marks of the operands, give the marks of the formula (meaning's pass_b and fail_b).
 use mathlib.Core.Path.{◌≡◌, refl, sym}
 use mathlib.Core.Bool.{Bool}
 use lib.Dec.{T}

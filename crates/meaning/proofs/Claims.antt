@@ -33,7 +33,7 @@ use Rattle.meaning.proofs.File.Formulas.{Under}
 use Rattle.meaning.proofs.File.Nodes.{beneath_under}
 use Rattle.meaning.proofs.Marks.Laws.{Fits}
 use Rattle.meaning.proofs.Marks.Atoms.{value_local, view_fit}
--- DEMAND 3, marks beside partners: marks-beside by the meaning, computed-beside of what is computed
+-- DEMAND 3, marks beside partners: marks_beside by the meaning, computed_beside of what is computed
 pub use Rattle.meaning.proofs.Marks.Partners.{marks_beside, computed_beside, other_partners}
 -- what Described says of one table: sets largest and least, relations largest, names of classes
 pub use Rattle.meaning.proofs.Classes.Described.{Described, described}

@@ -1,6 +1,6 @@
 -- No theorem speaks of nothing: what the public theorems assume is met by the pair and the chain of document 01, read from their bytes, and by a
--- partner that no file could hold. Premises that exclude each other, as in no-clash and never-clashes, and excluded middle in
--- each-classical are not among them.
+-- partner that no file could hold. Premises that exclude each other, as in no_clash and never_clashes, and excluded middle in
+-- each_classical are not among them.
 use mathlib.Core.Path.{refl}
 use mathlib.Core.Logic.{◌≢◌, inl}
 use mathlib.Core.Bool.{not}

@@ -48,7 +48,7 @@ module _ {A : Type 0} (nodes : List (Node A)) where
   unfolded zero k = Formula.top
   unfolded (suc d) k = formula_of (node_at k) (unfolded d)
 
-  -- the formula of node k: where operands are earlier nodes, k + 1 levels reach them all (proofs/File/Nodes, formula-at)
+  -- the formula of node k: where operands are earlier nodes, k + 1 levels reach them all (proofs/File/Nodes, formula_at)
   abbrev pub formula_at : ℕ → Formula A
   formula_at k = unfolded (suc k) k
 

@@ -1,4 +1,4 @@
--- Successor sets that are filled while they are stored (specs/File/Grammar of crate meaning, filledSet and filledFrom).
+-- Successor sets that are filled while they are stored (specs/File/Grammar of crate meaning, filled_set and filled_from).
 use mathlib.Core.Path.{◌≡◌, refl, sym, ap, ◌∙◌, subst}
 use mathlib.Core.Bool.{true, false}
 use mathlib.Core.List.{List, [], ◌∷◌, ◌++◌}

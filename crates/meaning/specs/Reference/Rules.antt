@@ -1,5 +1,5 @@
 -- Rules: what each constructor of a formula makes of what its operands have. Truth, marks and relations go by such rules; what a node has is what
--- its formula has, so that a kind of node is spelled out in formulaOf alone.
+-- its formula has, so that a kind of node is spelled out in formula_of alone.
 use Rattle.std.specs.Prelude.{ℕ}
 use Rattle.meaning.specs.Formula.{Formula, top, atom, neg, or, ex, eg, eu}
 use Rattle.meaning.specs.Nodes.{Node, formula_with}
