@@ -8,19 +8,19 @@ pub returns-in-Full : goal.returns-in-Full
 returns-in-Full c = made_same (ap (λ q. printed (asks q) c.args.file.now) (sym c.in-Full.is)) c.full.ensures
 
 pub returns-in-Marks : goal.returns-in-Marks
-returns-in-Marks c = made_same (ap (λ q. printed (asks q) c.args.file.now) (sym c.enum_told-in-Marks-1.given.1)) c.marks.ensures
+returns-in-Marks c = made_same (ap (λ q. printed (asks q) c.args.file.now) (sym c.in-Marks.is)) c.marks.ensures
 
 pub returns-in-Classes : goal.returns-in-Classes
-returns-in-Classes c = made_same (ap (λ q. printed (asks q) c.args.file.now) (sym c.enum_told-in-Classes-1.given.1)) c.classes.ensures
+returns-in-Classes c = made_same (ap (λ q. printed (asks q) c.args.file.now) (sym c.in-Classes.is)) c.classes.ensures
 
 pub returns-in-Merged : goal.returns-in-Merged
-returns-in-Merged c = made_same (ap (λ q. printed (asks q) c.args.file.now) (sym c.enum_told-in-Merged-1.given.1)) c.merged.ensures
+returns-in-Merged c = made_same (ap (λ q. printed (asks q) c.args.file.now) (sym c.in-Merged.is)) c.merged.ensures
 
 pub returns-in-Listing : goal.returns-in-Listing
-returns-in-Listing c = made_same (ap (λ q. printed (asks q) c.args.file.now) (sym c.enum_told-in-Listing-1.given.1)) c.listing.ensures
+returns-in-Listing c = made_same (ap (λ q. printed (asks q) c.args.file.now) (sym c.in-Listing.is)) c.listing.ensures
 
 pub returns-in-Verdict : goal.returns-in-Verdict
-returns-in-Verdict c = made_same (ap (λ q. printed (asks q) c.args.file.now) (sym c.enum_told-in-Verdict-1.given.1)) c.verdict.ensures
+returns-in-Verdict c = made_same (ap (λ q. printed (asks q) c.args.file.now) (sym c.in-Verdict.is)) c.verdict.ensures
 
 pub returns-in-Stretch : goal.returns-in-Stretch
 returns-in-Stretch c = made_same (ap (λ q. printed (asks q) c.args.file.now) (sym c.in-Stretch.is)) c.stretch.ensures
@@ -30,4 +30,4 @@ returns-in-Lookup c = made_same (ap (λ q. printed (asks q) c.args.file.now) (sy
 
 pub returns-in-Unknown : goal.returns-in-Unknown
 unfolding printed
-returns-in-Unknown c = made_same (ap (λ q. printed (asks q) c.args.file.now) (sym c.enum_told-in-Unknown-1.given.1)) c.usage.ensures
+returns-in-Unknown c = made_same (ap (λ q. printed (asks q) c.args.file.now) (sym c.in-Unknown.is)) c.usage.ensures

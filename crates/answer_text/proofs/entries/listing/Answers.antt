@@ -11,8 +11,8 @@ returns-in-Refused c =
     -- the buffer's length
     let room : length c.args.out.now ≡ text_bytes = search rules in
     let o = listing_outcome c.args.file.now (length c.args.out.now) in
-    made_over (refused_kept o c.in-Refused.cause c.in-Refused.is c.listing.ensures)
-    (made_same (refused_text o c.in-Refused.cause c.in-Refused.is c.listing.ensures (λ vs. vs) ∙ sym (listing_text_lem _ _ (omega (arith, room))))
+    made_over (refused_kept o c.in-Refused.cause c.in-Refused.is c.listing.ensures.answer)
+    (made_same (refused_text o c.in-Refused.cause c.in-Refused.is c.listing.ensures.answer (λ vs. vs) ∙ sym (listing_text_lem _ _ (omega (arith, room))))
     c.refusal.ensures)
 
 pub returns-in-Entries : goal.returns-in-Entries
@@ -21,4 +21,4 @@ returns-in-Entries c =
     let room : length c.args.out.now ≡ text_bytes = search rules in
     let o = listing_outcome c.args.file.now (length c.args.out.now) in
     made_same (sym (listing_text_lem _ _ (omega (arith, room))))
-    (entered_made o (listing_numbered _ _) c.in-Entries.n c.in-Entries.is c.listing.ensures)
+    (entered_made o (listing_numbered _ _) c.in-Entries.n c.in-Entries.is c.listing.ensures.answer)

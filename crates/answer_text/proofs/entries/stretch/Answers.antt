@@ -18,10 +18,10 @@ hexadecimal_line-requires c =
 
 pub returns-in-Refused : goal.returns-in-Refused
 returns-in-Refused c =
-    made_same (sym (stretch_refused c.args.file.now c.args.c c.in-Refused.cause (ap asked_number (sym c.in-Refused.is) ∙ c.component_refusal.ensures))) c.refusal.ensures
+    made_same (sym (stretch_refused c.args.file.now c.args.c c.in-Refused.cause (ap asked_number (sym c.in-Refused.is) ∙ c.component_refusal.ensures.answer))) c.refusal.ensures
 
 pub returns-in-Fine : goal.returns-in-Fine
 returns-in-Fine c =
     -- the question is not refused
-    let fine : ◌≡◌ {A = ℕ} 0 (fault_number (located c.args.file.now c.args.c)) = ap asked_number (sym c.in-Fine.is) ∙ c.component_refusal.ensures in
+    let fine : ◌≡◌ {A = ℕ} 0 (fault_number (located c.args.file.now c.args.c)) = ap asked_number (sym c.in-Fine.is) ∙ c.component_refusal.ensures.answer in
     made_same (ap hexadecimal_line c.component_bytes.ensures.answer ∙ sym (stretch_given c.args.file.now c.args.c fine)) c.hexadecimal_line.ensures
