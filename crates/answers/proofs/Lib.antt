@@ -3,6 +3,7 @@ pub mod Means
 pub mod Starts
 pub mod Parts
 pub mod Limit
+pub mod Settled
 pub mod Inhabited
 pub mod Printed
 pub mod Numbers

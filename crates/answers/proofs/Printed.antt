@@ -11,7 +11,8 @@ use Rattle.answers.specs.Listing.{class_lines}
 use Rattle.answers.specs.Lines.{words_line, mark_lines, lookup_line, judgement_line}
 use Rattle.answers.specs.Questions.{Question, full, marks, classes, merged, listing, verdict, stretch, lookup, unknown}
 use Rattle.answers.specs.Printed.{printed, text_after, text_within, listed_text, stretch_text}
-use Rattle.answers.proofs.Limit.{settles, lookup_settled, verdict_settled, component_settled}
+use Rattle.answers.proofs.Limit.{settles}
+use Rattle.answers.proofs.Settled.{lookup_settled, verdict_settled, component_settled}
 
 pub text_settled : (q : Question) (file : List ℕ) → printed q (take listing_bytes file) ≡ printed q file
 unfolding printed
