@@ -94,7 +94,7 @@ fn without_the_program_it_says_what_to_run() {
     let place = folder("without");
     let output = run(&[place.to_str().expect("a path")], Some(&place.join("none")), &CHAIN);
     assert_eq!(output.status.code(), Some(1));
-    assert!(message(&output).contains("rt run"));
+    assert!(message(&output).contains("`rt run` in the folder crates/query"));
 }
 
 #[test]
