@@ -6,9 +6,13 @@ ghost use Rattle.std.specs.Prelude.{◌≤◌, length};
 ghost use Rattle.io.specs.Counts.{IsPrefixLen};
 
 use answer_text::{FILE_BYTES, TEXT_BYTES, answer_text};
-use host::write;
 use std::fs::File;
 use std::rt::{Env, Files};
+
+// What cannot be written is not written.
+fn write(rt: &impl Print, bytes: &[u8]) {
+    let _ = rt.write_all(bytes);
+}
 
 // "query full", and the text for that question.
 fn print_answer(rt: &impl Print, question: &[u8], file: &[u8]) {

@@ -1,5 +1,5 @@
-// What the programs ask of the system, over the standard library. What fails is left out and told to nobody: an argument that does not fit is none, a
-// reader that fails has ended, and what cannot be written is not written.
+// What the programs ask of the system, over the standard library. What fails is left out and told to nobody: an argument that does not fit is none, and
+// a reader that fails has ended. No contract says what arguments there are.
 #![tactic(auto)]
 
 ghost use Rattle.std.specs.Prelude.{take};
@@ -35,11 +35,6 @@ pub fn read_full<R: Read>(from: &mut R, out: &mut [u8]) -> usize
         }
     }
     done
-}
-
-// Writes the bytes to standard output.
-pub fn write(rt: &impl Print, bytes: &[u8]) {
-    let _ = rt.write_all(bytes);
 }
 
 #[cfg(test)]

@@ -10,5 +10,5 @@ fn main(rt: HostRuntime) {
     let n = host::read_full(&mut rt.reader(), &mut file);
     let mut text = [0u8; TEXT_BYTES];
     let m = answer_text(b"listing", &file[..n], &mut text);
-    host::write(&rt, &text[..m]);
+    let _ = rt.write_all(&text[..m]);
 }

@@ -4,6 +4,8 @@ use Rattle.marks.proofs.Parts.{lent_limited, lent_at, all_listing}
 use Rattle.partitions.proofs.Naming.{needed_of, marked_row, naming_start, naming_more, naming_end}
 use Rattle.partitions.proofs.lent_classes.Goals as goal
 
+-- `lent_limited` has component c within the limits.
+
 pub under_roots-needed-requires : goal.under_roots-needed-requires
 under_roots-needed-requires c =
     let ((t, k, m, r, l), good) = c.requires in
@@ -13,81 +15,37 @@ pub loop-c-init : goal.loop-c-init
 loop-c-init c t l = naming_start t _ _ _
 
 pub offset_bounds-states-c : goal.offset_bounds-states-c
-offset_bounds-states-c c =
-    -- component c within the limits
-    let at : let i = c.loop-c.c in
-    Limited (get_or c.args.states i 0) (get_or c.args.inputs i 0) (get_or c.args.many i 0) i = let p = c.requires in lent_limited p.0.2.describes (lent_at p.0.4 _ c.loop-c-test.true) in
-    omega (arith, at.few)
+offset_bounds-states-c c = omega (arith, (lent_limited c.requires.0.2.describes (lent_at c.requires.0.4 _ c.loop-c-test.true)).few)
 
 pub bounds-states-c : goal.bounds-states-c
-bounds-states-c c =
-    -- component c within the limits
-    let at : let i = c.loop-c.c in
-    Limited (get_or c.args.states i 0) (get_or c.args.inputs i 0) (get_or c.args.many i 0) i = let p = c.requires in lent_limited p.0.2.describes (lent_at p.0.4 _ c.loop-c-test.true) in
-    omega (arith, at.few)
+bounds-states-c c = omega (arith, (lent_limited c.requires.0.2.describes (lent_at c.requires.0.4 _ c.loop-c-test.true)).few)
 
 pub overflow_cast-states : goal.overflow_cast-states
-overflow_cast-states c =
-    -- component c within the limits
-    let at : let i = c.loop-c.c in
-    Limited (get_or c.args.states i 0) (get_or c.args.inputs i 0) (get_or c.args.many i 0) i = let p = c.requires in lent_limited p.0.2.describes (lent_at p.0.4 _ c.loop-c-test.true) in
-    omega (arith, at.most_states_lem)
+overflow_cast-states c = omega (arith, (lent_limited c.requires.0.2.describes (lent_at c.requires.0.4 _ c.loop-c-test.true)).most_states_lem)
 
 pub offset_bounds-inputs-c : goal.offset_bounds-inputs-c
-offset_bounds-inputs-c c =
-    -- component c within the limits
-    let at : let i = c.loop-c.c in
-    Limited (get_or c.args.states i 0) (get_or c.args.inputs i 0) (get_or c.args.many i 0) i = let p = c.requires in lent_limited p.0.2.describes (lent_at p.0.4 _ c.loop-c-test.true) in
-    omega (arith, at.few)
+offset_bounds-inputs-c c = omega (arith, (lent_limited c.requires.0.2.describes (lent_at c.requires.0.4 _ c.loop-c-test.true)).few)
 
 pub bounds-inputs-c : goal.bounds-inputs-c
-bounds-inputs-c c =
-    -- component c within the limits
-    let at : let i = c.loop-c.c in
-    Limited (get_or c.args.states i 0) (get_or c.args.inputs i 0) (get_or c.args.many i 0) i = let p = c.requires in lent_limited p.0.2.describes (lent_at p.0.4 _ c.loop-c-test.true) in
-    omega (arith, at.few)
+bounds-inputs-c c = omega (arith, (lent_limited c.requires.0.2.describes (lent_at c.requires.0.4 _ c.loop-c-test.true)).few)
 
 pub overflow_cast-inputs : goal.overflow_cast-inputs
-overflow_cast-inputs c =
-    -- component c within the limits
-    let at : let i = c.loop-c.c in
-    Limited (get_or c.args.states i 0) (get_or c.args.inputs i 0) (get_or c.args.many i 0) i = let p = c.requires in lent_limited p.0.2.describes (lent_at p.0.4 _ c.loop-c-test.true) in
-    omega (arith, at.most_inputs)
+overflow_cast-inputs c = omega (arith, (lent_limited c.requires.0.2.describes (lent_at c.requires.0.4 _ c.loop-c-test.true)).most_inputs)
 
 pub offset_bounds-many-c : goal.offset_bounds-many-c
-offset_bounds-many-c c =
-    -- component c within the limits
-    let at : let i = c.loop-c.c in
-    Limited (get_or c.args.states i 0) (get_or c.args.inputs i 0) (get_or c.args.many i 0) i = let p = c.requires in lent_limited p.0.2.describes (lent_at p.0.4 _ c.loop-c-test.true) in
-    omega (arith, at.few)
+offset_bounds-many-c c = omega (arith, (lent_limited c.requires.0.2.describes (lent_at c.requires.0.4 _ c.loop-c-test.true)).few)
 
 pub bounds-many-c : goal.bounds-many-c
-bounds-many-c c =
-    -- component c within the limits
-    let at : let i = c.loop-c.c in
-    Limited (get_or c.args.states i 0) (get_or c.args.inputs i 0) (get_or c.args.many i 0) i = let p = c.requires in lent_limited p.0.2.describes (lent_at p.0.4 _ c.loop-c-test.true) in
-    omega (arith, at.few)
+bounds-many-c c = omega (arith, (lent_limited c.requires.0.2.describes (lent_at c.requires.0.4 _ c.loop-c-test.true)).few)
 
 pub overflow_cast-many : goal.overflow_cast-many
-overflow_cast-many c =
-    -- component c within the limits
-    let at : let i = c.loop-c.c in
-    Limited (get_or c.args.states i 0) (get_or c.args.inputs i 0) (get_or c.args.many i 0) i = let p = c.requires in lent_limited p.0.2.describes (lent_at p.0.4 _ c.loop-c-test.true) in
-    omega (arith, at.most_outputs)
+overflow_cast-many c = omega (arith, (lent_limited c.requires.0.2.describes (lent_at c.requires.0.4 _ c.loop-c-test.true)).most_outputs)
 
 pub offset_bounds-marks-c : goal.offset_bounds-marks-c
-offset_bounds-marks-c c =
-    -- component c within the limits
-    let at : let i = c.loop-c.c in
-    Limited (get_or c.args.states i 0) (get_or c.args.inputs i 0) (get_or c.args.many i 0) i = let p = c.requires in lent_limited p.0.2.describes (lent_at p.0.4 _ c.loop-c-test.true) in
-    omega (arith, at.few)
+offset_bounds-marks-c c = omega (arith, (lent_limited c.requires.0.2.describes (lent_at c.requires.0.4 _ c.loop-c-test.true)).few)
 
 pub bounds-marks-c : goal.bounds-marks-c
-bounds-marks-c c =
-    -- component c within the limits
-    let at : let i = c.loop-c.c in
-    Limited (get_or c.args.states i 0) (get_or c.args.inputs i 0) (get_or c.args.many i 0) i = let p = c.requires in lent_limited p.0.2.describes (lent_at p.0.4 _ c.loop-c-test.true) in
-    omega (arith, at.few)
+bounds-marks-c c = omega (arith, (lent_limited c.requires.0.2.describes (lent_at c.requires.0.4 _ c.loop-c-test.true)).few)
 
 pub component_classes-requires : goal.component_classes-requires
 component_classes-requires c =
@@ -96,25 +54,13 @@ component_classes-requires c =
     (t, k, marked_row t _ _ k m r _ e.here, needed_of (all_listing m.describes l) good (c.under_roots-needed.ensures k.nodes (all_listing m.describes l)), e)
 
 pub offset_bounds-names-c : goal.offset_bounds-names-c
-offset_bounds-names-c c =
-    -- component c within the limits
-    let at : let i = c.loop-c.c in
-    Limited (get_or c.args.states i 0) (get_or c.args.inputs i 0) (get_or c.args.many i 0) i = let p = c.requires in lent_limited p.0.2.describes (lent_at p.0.4 _ c.loop-c-test.true) in
-    omega (arith, at.few)
+offset_bounds-names-c c = omega (arith, (lent_limited c.requires.0.2.describes (lent_at c.requires.0.4 _ c.loop-c-test.true)).few)
 
 pub bounds-names-c : goal.bounds-names-c
-bounds-names-c c =
-    -- component c within the limits
-    let at : let i = c.loop-c.c in
-    Limited (get_or c.args.states i 0) (get_or c.args.inputs i 0) (get_or c.args.many i 0) i = let p = c.requires in lent_limited p.0.2.describes (lent_at p.0.4 _ c.loop-c-test.true) in
-    omega (arith, at.few)
+bounds-names-c c = omega (arith, (lent_limited c.requires.0.2.describes (lent_at c.requires.0.4 _ c.loop-c-test.true)).few)
 
 pub overflow_add-c : goal.overflow_add-c
-overflow_add-c c =
-    -- component c within the limits
-    let at : let i = c.loop-c.c in
-    Limited (get_or c.args.states i 0) (get_or c.args.inputs i 0) (get_or c.args.many i 0) i = let p = c.requires in lent_limited p.0.2.describes (lent_at p.0.4 _ c.loop-c-test.true) in
-    omega (arith, at.few)
+overflow_add-c c = omega (arith, (lent_limited c.requires.0.2.describes (lent_at c.requires.0.4 _ c.loop-c-test.true)).few)
 
 pub loop-c-preserved : goal.loop-c-preserved
 loop-c-preserved c =

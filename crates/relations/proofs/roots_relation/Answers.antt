@@ -11,147 +11,85 @@ use Rattle.relations.specs.Relations.{Comparing}
 use Rattle.relations.proofs.Parts.{parts_related, needed_closed, roots_related}
 use Rattle.relations.proofs.roots_relation.Goals as goal
 
+-- `parts` says where the component's lists lie.
+
 pub component_bounds-at-requires : goal.component_bounds-at-requires
 component_bounds-at-requires c = let p = c.requires in lent_limited p.2.describes p.4
 
 pub offset_bounds-outs-first : goal.offset_bounds-outs-first
-offset_bounds-outs-first c =
-    -- where the component's lists lie
-    let at : Parts c.component_bounds-at.result c.args.nexts.now c.args.outs.now c.args.outputs.now c.args.states c.args.inputs = let p = c.requires in parts p.2.describes p.4 c.component_bounds-at.ensures in
-    omega (arith, at.lie.outs_in)
+offset_bounds-outs-first c = omega (arith, (parts c.requires.2.describes c.requires.4 c.component_bounds-at.ensures).lie.outs_in)
 
 pub slice_bounds-compared_words-count : goal.slice_bounds-compared_words-count
-slice_bounds-compared_words-count c =
-    -- where the component's lists lie
-    let at : Parts c.component_bounds-at.result c.args.nexts.now c.args.outs.now c.args.outputs.now c.args.states c.args.inputs = let p = c.requires in parts p.2.describes p.4 c.component_bounds-at.ensures in
-    at.lie.outs_in.order
+slice_bounds-compared_words-count c = (parts c.requires.2.describes c.requires.4 c.component_bounds-at.ensures).lie.outs_in.order
 
 pub slice_bounds-compared_words-start : goal.slice_bounds-compared_words-start
-slice_bounds-compared_words-start c =
-    -- where the component's lists lie
-    let at : Parts c.component_bounds-at.result c.args.nexts.now c.args.outs.now c.args.outputs.now c.args.states c.args.inputs = let p = c.requires in parts p.2.describes p.4 c.component_bounds-at.ensures in
-    at.lie.outs_in.order
+slice_bounds-compared_words-start c = (parts c.requires.2.describes c.requires.4 c.component_bounds-at.ensures).lie.outs_in.order
 
 pub slice_bounds-compared_words-end : goal.slice_bounds-compared_words-end
-slice_bounds-compared_words-end c =
-    -- where the component's lists lie
-    let at : Parts c.component_bounds-at.result c.args.nexts.now c.args.outs.now c.args.outputs.now c.args.states c.args.inputs = let p = c.requires in parts p.2.describes p.4 c.component_bounds-at.ensures in
-    at.lie.outs_in.end
+slice_bounds-compared_words-end c = (parts c.requires.2.describes c.requires.4 c.component_bounds-at.ensures).lie.outs_in.end
 
 pub offset_bounds-outputs-low : goal.offset_bounds-outputs-low
-offset_bounds-outputs-low c =
-    -- where the component's lists lie
-    let at : Parts c.component_bounds-at.result c.args.nexts.now c.args.outs.now c.args.outputs.now c.args.states c.args.inputs = let p = c.requires in parts p.2.describes p.4 c.component_bounds-at.ensures in
-    omega (arith, at.lie.outputs_in_lem)
+offset_bounds-outputs-low c = omega (arith, (parts c.requires.2.describes c.requires.4 c.component_bounds-at.ensures).lie.outputs_in_lem)
 
 pub slice_bounds-compared_words-count-2 : goal.slice_bounds-compared_words-count-2
-slice_bounds-compared_words-count-2 c =
-    -- where the component's lists lie
-    let at : Parts c.component_bounds-at.result c.args.nexts.now c.args.outs.now c.args.outputs.now c.args.states c.args.inputs = let p = c.requires in parts p.2.describes p.4 c.component_bounds-at.ensures in
-    at.lie.outputs_in_lem.order
+slice_bounds-compared_words-count-2 c = (parts c.requires.2.describes c.requires.4 c.component_bounds-at.ensures).lie.outputs_in_lem.order
 
 pub slice_bounds-compared_words-start-2 : goal.slice_bounds-compared_words-start-2
-slice_bounds-compared_words-start-2 c =
-    -- where the component's lists lie
-    let at : Parts c.component_bounds-at.result c.args.nexts.now c.args.outs.now c.args.outputs.now c.args.states c.args.inputs = let p = c.requires in parts p.2.describes p.4 c.component_bounds-at.ensures in
-    at.lie.outputs_in_lem.order
+slice_bounds-compared_words-start-2 c = (parts c.requires.2.describes c.requires.4 c.component_bounds-at.ensures).lie.outputs_in_lem.order
 
 pub slice_bounds-compared_words-end-2 : goal.slice_bounds-compared_words-end-2
-slice_bounds-compared_words-end-2 c =
-    -- where the component's lists lie
-    let at : Parts c.component_bounds-at.result c.args.nexts.now c.args.outs.now c.args.outputs.now c.args.states c.args.inputs = let p = c.requires in parts p.2.describes p.4 c.component_bounds-at.ensures in
-    at.lie.outputs_in_lem.end
+slice_bounds-compared_words-end-2 c = (parts c.requires.2.describes c.requires.4 c.component_bounds-at.ensures).lie.outputs_in_lem.end
 
 pub compared_words-compared-requires : goal.compared_words-compared-requires
 compared_words-compared-requires c =
-    -- where the component's lists lie
-    let at : Parts c.component_bounds-at.result c.args.nexts.now c.args.outs.now c.args.outputs.now c.args.states c.args.inputs = let p = c.requires in parts p.2.describes p.4 c.component_bounds-at.ensures in
     let (t, k, m, u, e) = c.requires in
     let d = m.describes in (
       (lent_limited d e).most_states_lem,
-      at.lists.out_count,
+      (parts c.requires.2.describes c.requires.4 c.component_bounds-at.ensures).lists.out_count,
       outputs_signals k d.promised _ (lent_here d e) _ (lent_table d e c.component_bounds-at.ensures),
     )
 
 pub offset_bounds-nexts-from : goal.offset_bounds-nexts-from
-offset_bounds-nexts-from c =
-    -- where the component's lists lie
-    let at : Parts c.component_bounds-at.result c.args.nexts.now c.args.outs.now c.args.outputs.now c.args.states c.args.inputs = let p = c.requires in parts p.2.describes p.4 c.component_bounds-at.ensures in
-    omega (arith, at.lie.nexts_in)
+offset_bounds-nexts-from c = omega (arith, (parts c.requires.2.describes c.requires.4 c.component_bounds-at.ensures).lie.nexts_in)
 
 pub slice_bounds-formula_relations-count : goal.slice_bounds-formula_relations-count
-slice_bounds-formula_relations-count c =
-    -- where the component's lists lie
-    let at : Parts c.component_bounds-at.result c.args.nexts.now c.args.outs.now c.args.outputs.now c.args.states c.args.inputs = let p = c.requires in parts p.2.describes p.4 c.component_bounds-at.ensures in
-    at.lie.nexts_in.order
+slice_bounds-formula_relations-count c = (parts c.requires.2.describes c.requires.4 c.component_bounds-at.ensures).lie.nexts_in.order
 
 pub slice_bounds-formula_relations-start : goal.slice_bounds-formula_relations-start
-slice_bounds-formula_relations-start c =
-    -- where the component's lists lie
-    let at : Parts c.component_bounds-at.result c.args.nexts.now c.args.outs.now c.args.outputs.now c.args.states c.args.inputs = let p = c.requires in parts p.2.describes p.4 c.component_bounds-at.ensures in
-    at.lie.nexts_in.order
+slice_bounds-formula_relations-start c = (parts c.requires.2.describes c.requires.4 c.component_bounds-at.ensures).lie.nexts_in.order
 
 pub slice_bounds-formula_relations-end : goal.slice_bounds-formula_relations-end
-slice_bounds-formula_relations-end c =
-    -- where the component's lists lie
-    let at : Parts c.component_bounds-at.result c.args.nexts.now c.args.outs.now c.args.outputs.now c.args.states c.args.inputs = let p = c.requires in parts p.2.describes p.4 c.component_bounds-at.ensures in
-    at.lie.nexts_in.end
+slice_bounds-formula_relations-end c = (parts c.requires.2.describes c.requires.4 c.component_bounds-at.ensures).lie.nexts_in.end
 
 pub offset_bounds-outs-first-2 : goal.offset_bounds-outs-first-2
-offset_bounds-outs-first-2 c =
-    -- where the component's lists lie
-    let at : Parts c.component_bounds-at.result c.args.nexts.now c.args.outs.now c.args.outputs.now c.args.states c.args.inputs = let p = c.requires in parts p.2.describes p.4 c.component_bounds-at.ensures in
-    omega (arith, at.lie.outs_in)
+offset_bounds-outs-first-2 c = omega (arith, (parts c.requires.2.describes c.requires.4 c.component_bounds-at.ensures).lie.outs_in)
 
 pub slice_bounds-formula_relations-count-2 : goal.slice_bounds-formula_relations-count-2
-slice_bounds-formula_relations-count-2 c =
-    -- where the component's lists lie
-    let at : Parts c.component_bounds-at.result c.args.nexts.now c.args.outs.now c.args.outputs.now c.args.states c.args.inputs = let p = c.requires in parts p.2.describes p.4 c.component_bounds-at.ensures in
-    at.lie.outs_in.order
+slice_bounds-formula_relations-count-2 c = (parts c.requires.2.describes c.requires.4 c.component_bounds-at.ensures).lie.outs_in.order
 
 pub slice_bounds-formula_relations-start-2 : goal.slice_bounds-formula_relations-start-2
-slice_bounds-formula_relations-start-2 c =
-    -- where the component's lists lie
-    let at : Parts c.component_bounds-at.result c.args.nexts.now c.args.outs.now c.args.outputs.now c.args.states c.args.inputs = let p = c.requires in parts p.2.describes p.4 c.component_bounds-at.ensures in
-    at.lie.outs_in.order
+slice_bounds-formula_relations-start-2 c = (parts c.requires.2.describes c.requires.4 c.component_bounds-at.ensures).lie.outs_in.order
 
 pub slice_bounds-formula_relations-end-2 : goal.slice_bounds-formula_relations-end-2
-slice_bounds-formula_relations-end-2 c =
-    -- where the component's lists lie
-    let at : Parts c.component_bounds-at.result c.args.nexts.now c.args.outs.now c.args.outputs.now c.args.states c.args.inputs = let p = c.requires in parts p.2.describes p.4 c.component_bounds-at.ensures in
-    at.lie.outs_in.end
+slice_bounds-formula_relations-end-2 c = (parts c.requires.2.describes c.requires.4 c.component_bounds-at.ensures).lie.outs_in.end
 
 pub offset_bounds-outputs-low-2 : goal.offset_bounds-outputs-low-2
-offset_bounds-outputs-low-2 c =
-    -- where the component's lists lie
-    let at : Parts c.component_bounds-at.result c.args.nexts.now c.args.outs.now c.args.outputs.now c.args.states c.args.inputs = let p = c.requires in parts p.2.describes p.4 c.component_bounds-at.ensures in
-    omega (arith, at.lie.outputs_in_lem)
+offset_bounds-outputs-low-2 c = omega (arith, (parts c.requires.2.describes c.requires.4 c.component_bounds-at.ensures).lie.outputs_in_lem)
 
 pub slice_bounds-formula_relations-count-3 : goal.slice_bounds-formula_relations-count-3
-slice_bounds-formula_relations-count-3 c =
-    -- where the component's lists lie
-    let at : Parts c.component_bounds-at.result c.args.nexts.now c.args.outs.now c.args.outputs.now c.args.states c.args.inputs = let p = c.requires in parts p.2.describes p.4 c.component_bounds-at.ensures in
-    at.lie.outputs_in_lem.order
+slice_bounds-formula_relations-count-3 c = (parts c.requires.2.describes c.requires.4 c.component_bounds-at.ensures).lie.outputs_in_lem.order
 
 pub slice_bounds-formula_relations-start-3 : goal.slice_bounds-formula_relations-start-3
-slice_bounds-formula_relations-start-3 c =
-    -- where the component's lists lie
-    let at : Parts c.component_bounds-at.result c.args.nexts.now c.args.outs.now c.args.outputs.now c.args.states c.args.inputs = let p = c.requires in parts p.2.describes p.4 c.component_bounds-at.ensures in
-    at.lie.outputs_in_lem.order
+slice_bounds-formula_relations-start-3 c = (parts c.requires.2.describes c.requires.4 c.component_bounds-at.ensures).lie.outputs_in_lem.order
 
 pub slice_bounds-formula_relations-end-3 : goal.slice_bounds-formula_relations-end-3
-slice_bounds-formula_relations-end-3 c =
-    -- where the component's lists lie
-    let at : Parts c.component_bounds-at.result c.args.nexts.now c.args.outs.now c.args.outputs.now c.args.states c.args.inputs = let p = c.requires in parts p.2.describes p.4 c.component_bounds-at.ensures in
-    at.lie.outputs_in_lem.end
+slice_bounds-formula_relations-end-3 c = (parts c.requires.2.describes c.requires.4 c.component_bounds-at.ensures).lie.outputs_in_lem.end
 
 pub formula_relations-relations-requires : goal.formula_relations-relations-requires
 formula_relations-relations-requires c =
-    -- where the component's lists lie
-    let at : Parts c.component_bounds-at.result c.args.nexts.now c.args.outs.now c.args.outputs.now c.args.states c.args.inputs = let p = c.requires in parts p.2.describes p.4 c.component_bounds-at.ensures in
     let (t, k, m, u, e) = c.requires in
     let d = m.describes in
-    (at.lists, omega (arith, (lent_limited d e).most_states_lem), (k.nodes, lent_listing d e, needed_closed d u))
+    ((parts c.requires.2.describes c.requires.4 c.component_bounds-at.ensures).lists, omega (arith, (lent_limited d e).most_states_lem), (k.nodes, lent_listing d e, needed_closed d u))
 
 pub related_by-requires : goal.related_by-requires
 related_by-requires c =
