@@ -1,13 +1,33 @@
-use Rattle.std.proofs.Common.{sym, ◌∙◌, length, arith}
-use Rattle.meaning.specs.File.Grammar.{instrument_of}
+use Rattle.std.proofs.Common.{◌≡◌, sym, ◌∙◌, List, ℕ, length, arith}
+use Rattle.meaning.specs.File.Grammar.{Contents, instrument_of}
+use Rattle.meaning.specs.Instrument.{components, table}
+use Rattle.meaning.specs.Merged.{merged_count_of}
 use Rattle.meaning.specs.Reference.Answers.{merged_size, merged_word, merged_words}
 use Rattle.answers.specs.Buffers.{fitting}
 use Rattle.meaning.proofs.Basic.Entries.{list_length}
-use Rattle.instrument.specs.Outline.{whole}
+use Rattle.instrument.specs.declared.Instrument.{Instrument}
+use Rattle.instrument.specs.Described.{Describes}
+use Rattle.mark_rules.specs.declared.Mark.{Mark}
+use Rattle.marks.specs.NodeMarks.{marks_of}
+use Rattle.merging.specs.Contents.{named}
+use Rattle.partitions.specs.Classes.{MarkedInstrument, root_classes_of}
+use Rattle.root_words.specs.LastNode.{RootPrepared}
 use Rattle.cursor.specs.declared.Refusal.TheVariants.{MergedSize}
 use Rattle.root_words.proofs.LastNode.{root_named}
 use Rattle.entry_queries.proofs.Answering.{oversized, within_room, too_short, written}
 use Rattle.entry_queries.proofs.write_short.Goals as goal
+
+-- marks and names are the instrument's
+prepared : {t : Instrument} {marks : List (List Mark)} {names : List (List ℕ)} → ((k : Contents) → Describes t k → marks ≡ marks_of (instrument_of k))
+    → ((k : Contents) → MarkedInstrument t marks k → names ≡ root_classes_of (instrument_of k)) → (k : Contents) → Describes t k → RootPrepared t marks names k
+prepared marked named k d =
+    let m = marked k d in
+    record { describes = d; marked = m; named = named k (record { describes = d; marked = m }) }
+
+-- so many merged states are counted
+counted : {t : Instrument} {marks : List (List Mark)} {names : List (List ℕ)} {k : Contents} {m : ℕ} → RootPrepared t marks names k
+    → m ≡ merged_count_of (components (instrument_of k)) (table (instrument_of k)) (named names) → m ≡ merged_size (instrument_of k)
+counted {t} {marks} {names} {k} p e = e ∙ root_named t k p.describes names p.named
 
 pub root_classes-names-requires : goal.root_classes-names-requires
 root_classes-names-requires c =
@@ -20,53 +40,39 @@ merged_count-merged-requires c = let (k, d) = c.requires in (_, k, d)
 pub returns-then-merged-gt4096 : goal.returns-then-merged-gt4096
 returns-then-merged-gt4096 c =
     λ k d.
-    let t = whole c.args.t c.args.nexts.now in
-    let marked = c.all_marks-marks.ensures k d in
-    let e = c.root_classes-names.ensures k (record { describes = d; marked = marked }) in
-    let size = root_named t k d c.root_classes-names.result e in
-    let count = c.merged_count-merged.ensures _ k d in
+    let n = counted (prepared c.all_marks-marks.ensures c.root_classes-names.ensures k d) (c.merged_count-merged.ensures _ k d) in
     let I = instrument_of k in
-    oversized (merged_size I) (fitting (length c.args.out.now) (merged_words I)) MergedSize c.args.out.now (omega (arith, count, size))
+    oversized (merged_size I) (fitting (length c.args.out.now) (merged_words I)) MergedSize c.args.out.now (omega (arith, n))
 
 pub returns-then-out-merged : goal.returns-then-out-merged
 returns-then-out-merged c =
     λ k d.
-    let t = whole c.args.t c.args.nexts.now in
-    let marked = c.all_marks-marks.ensures k d in
-    let e = c.root_classes-names.ensures k (record { describes = d; marked = marked }) in
-    let size = root_named t k d c.root_classes-names.result e in
-    let count = c.merged_count-merged.ensures _ k d in
+    let n = counted (prepared c.all_marks-marks.ensures c.root_classes-names.ensures k d) (c.merged_count-merged.ensures _ k d) in
     let I = instrument_of k in
     let old = c.args.out.now in
-    within_room (merged_size I) 12 (fitting (length old) (merged_words I)) (omega (arith, count, size))
-    (too_short (merged_words I) old (omega (arith, count, size, list_length (merged_size I) (merged_word I))))
+    within_room (merged_size I) 12 (fitting (length old) (merged_words I)) (omega (arith, n))
+    (too_short (merged_words I) old (omega (arith, n, list_length (merged_size I) (merged_word I))))
 
 pub write_root_words-requires : goal.write_root_words-requires
 write_root_words-requires c =
     let (k, d) = c.requires in
-    let t = whole c.args.t c.args.nexts.now in
-    let marked = c.all_marks-marks.ensures k d in
-    let e = c.root_classes-names.ensures k (record { describes = d; marked = marked }) in
-    let size = root_named t k d c.root_classes-names.result e in
-    let count = c.merged_count-merged.ensures _ k d in
+    let p = prepared c.all_marks-marks.ensures c.root_classes-names.ensures k d in
+    let n = counted p (c.merged_count-merged.ensures _ k d) in
     record {
       contents = k;
-      prepared = record { describes = d; marked = marked; named = e };
-      few = omega (arith, count, size);
-      fits = omega (arith, count, size);
+      prepared = p;
+      few = omega (arith, n);
+      fits = omega (arith, n);
     }
 
 pub returns : goal.returns
 returns c =
     λ k d.
-    let t = whole c.args.t c.args.nexts.now in
-    let marked = c.all_marks-marks.ensures k d in
-    let e = c.root_classes-names.ensures k (record { describes = d; marked = marked }) in
-    let size = root_named t k d c.root_classes-names.result e in
-    let count = c.merged_count-merged.ensures _ k d in
+    let p = prepared c.all_marks-marks.ensures c.root_classes-names.ensures k d in
+    let n = counted p (c.merged_count-merged.ensures _ k d) in
     let I = instrument_of k in
     let old = c.args.out.now in
-    within_room (merged_size I) 12 (fitting (length old) (merged_words I)) (omega (arith, count, size))
-    (written (merged_words I) old _ c.merged_count-merged.result (count ∙ size ∙ sym (list_length (merged_size I) (merged_word I)))
-    (omega (arith, count, size, list_length (merged_size I) (merged_word I)))
-    (c.write_root_words.ensures k (record { describes = d; marked = marked; named = e })))
+    within_room (merged_size I) 12 (fitting (length old) (merged_words I)) (omega (arith, n))
+    (written (merged_words I) old _ c.merged_count-merged.result (n ∙ sym (list_length (merged_size I) (merged_word I)))
+    (omega (arith, n, list_length (merged_size I) (merged_word I)))
+    (c.write_root_words.ensures k p))
