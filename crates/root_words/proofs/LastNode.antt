@@ -21,10 +21,11 @@ use Rattle.instrument.specs.Roots.{listed_roots, one_root}
 use Rattle.instrument.proofs.LastRoot.{last_good, last_listed}
 use Rattle.instrument.proofs.Places.{nodecount_is}
 use Rattle.mark_rules.specs.declared.Mark.{Mark}
+use Rattle.marks.specs.NodeMarks.{marks_of}
 use Rattle.merging.specs.Contents.{named}
 use Rattle.merging.specs.Parts as parts
 use Rattle.merging.specs.Parts.{OfComponents}
-use Rattle.partitions.specs.Classes.{root_classes_of}
+use Rattle.partitions.specs.Classes.{MarkedInstrument, root_classes_of}
 use Rattle.merged_words.specs.Prepared.{Askable, IsRoot, Prepared, Room, bit_by}
 use Rattle.root_words.specs.LastNode.{RootPrepared, RootReady, RootRoom}
 use Rattle.merged_words.proofs.Lookup.{askable, looked_up_lem, ready}
@@ -98,3 +99,12 @@ module _
     root_looked_up =
         looked_up_lem t names words states o counts e k (root_alone (instrument_of k)) r (t.nodecount - 1) is
         ∙ last_looked t k r.describes (λ i. get_or states i 0) ∙ root_looked (instrument_of k) (λ i. get_or states i 0)
+
+-- what marks and classes say of the instrument, together
+module _ {t : Instrument} {marks : List (List Mark)} (marked : (k : Contents) → Describes t k → marks ≡ marks_of (instrument_of k)) where
+  pub own_marks : (k : Contents) → Describes t k → MarkedInstrument t marks k
+  own_marks k d = record { describes = d; marked = marked k d }
+
+  pub own_prepared : {names : List (List ℕ)} → ((k : Contents) → MarkedInstrument t marks k → names ≡ root_classes_of (instrument_of k))
+      → (k : Contents) → Describes t k → RootPrepared t marks names k
+  own_prepared named k d = record { describes = d; marked = marked k d; named = named k (own_marks k d) }

@@ -6,23 +6,13 @@ use Rattle.meaning.specs.Reference.Answers.{merged_size, merged_word, merged_wor
 use Rattle.answers.specs.Buffers.{fitting}
 use Rattle.meaning.proofs.Basic.Entries.{list_length}
 use Rattle.instrument.specs.declared.Instrument.{Instrument}
-use Rattle.instrument.specs.Described.{Describes}
 use Rattle.mark_rules.specs.declared.Mark.{Mark}
-use Rattle.marks.specs.NodeMarks.{marks_of}
 use Rattle.merging.specs.Contents.{named}
-use Rattle.partitions.specs.Classes.{MarkedInstrument, root_classes_of}
 use Rattle.root_words.specs.LastNode.{RootPrepared}
 use Rattle.cursor.specs.declared.Refusal.TheVariants.{MergedSize}
-use Rattle.root_words.proofs.LastNode.{root_named}
+use Rattle.root_words.proofs.LastNode.{root_named, own_prepared}
 use Rattle.entry_queries.proofs.Answering.{oversized, within_room, too_short, written}
 use Rattle.entry_queries.proofs.write_short.Goals as goal
-
--- marks and names are the instrument's
-prepared : {t : Instrument} {marks : List (List Mark)} {names : List (List ℕ)} → ((k : Contents) → Describes t k → marks ≡ marks_of (instrument_of k))
-    → ((k : Contents) → MarkedInstrument t marks k → names ≡ root_classes_of (instrument_of k)) → (k : Contents) → Describes t k → RootPrepared t marks names k
-prepared marked named k d =
-    let m = marked k d in
-    record { describes = d; marked = m; named = named k (record { describes = d; marked = m }) }
 
 -- so many merged states are counted
 counted : {t : Instrument} {marks : List (List Mark)} {names : List (List ℕ)} {k : Contents} {m : ℕ} → RootPrepared t marks names k
@@ -40,14 +30,14 @@ merged_count-merged-requires c = let (k, d) = c.requires in (_, k, d)
 pub returns-then-merged-gt4096 : goal.returns-then-merged-gt4096
 returns-then-merged-gt4096 c =
     λ k d.
-    let n = counted (prepared c.all_marks-marks.ensures c.root_classes-names.ensures k d) (c.merged_count-merged.ensures _ k d) in
+    let n = counted (own_prepared c.all_marks-marks.ensures c.root_classes-names.ensures k d) (c.merged_count-merged.ensures _ k d) in
     let I = instrument_of k in
     oversized (merged_size I) (fitting (length c.args.out.now) (merged_words I)) MergedSize c.args.out.now (omega (arith, n))
 
 pub returns-then-out-merged : goal.returns-then-out-merged
 returns-then-out-merged c =
     λ k d.
-    let n = counted (prepared c.all_marks-marks.ensures c.root_classes-names.ensures k d) (c.merged_count-merged.ensures _ k d) in
+    let n = counted (own_prepared c.all_marks-marks.ensures c.root_classes-names.ensures k d) (c.merged_count-merged.ensures _ k d) in
     let I = instrument_of k in
     let old = c.args.out.now in
     within_room (merged_size I) 12 (fitting (length old) (merged_words I)) (omega (arith, n))
@@ -56,7 +46,7 @@ returns-then-out-merged c =
 pub write_root_words-requires : goal.write_root_words-requires
 write_root_words-requires c =
     let (k, d) = c.requires in
-    let p = prepared c.all_marks-marks.ensures c.root_classes-names.ensures k d in
+    let p = own_prepared c.all_marks-marks.ensures c.root_classes-names.ensures k d in
     let n = counted p (c.merged_count-merged.ensures _ k d) in
     record {
       contents = k;
@@ -68,7 +58,7 @@ write_root_words-requires c =
 pub returns : goal.returns
 returns c =
     λ k d.
-    let p = prepared c.all_marks-marks.ensures c.root_classes-names.ensures k d in
+    let p = own_prepared c.all_marks-marks.ensures c.root_classes-names.ensures k d in
     let n = counted p (c.merged_count-merged.ensures _ k d) in
     let I = instrument_of k in
     let old = c.args.out.now in

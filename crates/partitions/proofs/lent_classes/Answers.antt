@@ -1,5 +1,4 @@
-use Rattle.std.proofs.Common.{get_or, arith}
-use Rattle.instrument.specs.Bounds.{Limited}
+use Rattle.std.proofs.Common.{arith}
 use Rattle.marks.proofs.Parts.{lent_limited, lent_at, all_listing}
 use Rattle.partitions.proofs.Naming.{needed_of, marked_row, naming_start, naming_more, naming_end}
 use Rattle.partitions.proofs.lent_classes.Goals as goal

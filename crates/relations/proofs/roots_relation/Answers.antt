@@ -4,7 +4,7 @@ use Rattle.meaning.specs.File.Promise.{component_at}
 use Rattle.meaning.specs.Seen.{view_of}
 use Rattle.instrument.proofs.Tables.{table_states}
 use Rattle.marks.proofs.Formulas.{own_view}
-use Rattle.marks.proofs.Parts.{Parts, parts, lent_here, lent_limited, lent_inputs, lent_table, lent_listing}
+use Rattle.marks.proofs.Parts.{parts, lent_here, lent_limited, lent_inputs, lent_table, lent_listing}
 use Rattle.compared.proofs.Seen.{compared_seen, outputs_signals}
 use Rattle.subformulas.proofs.Root.{good_below}
 use Rattle.relations.specs.Relations.{Comparing}

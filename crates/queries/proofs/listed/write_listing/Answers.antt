@@ -1,12 +1,6 @@
-use Rattle.std.proofs.Common.{◌≡◌, sym, subst, ap, ◌∙◌, length, List, ℕ}
-use Rattle.meaning.specs.File.Grammar.{Contents, instrument_of}
+use Rattle.std.proofs.Common.{sym, subst, ap, ◌∙◌, length}
+use Rattle.meaning.specs.File.Grammar.{instrument_of}
 use Rattle.cursor.specs.declared.Refusal.TheVariants.{MergedSize}
-use Rattle.instrument.specs.declared.Instrument.{Instrument}
-use Rattle.instrument.specs.Described.{Describes}
-use Rattle.mark_rules.specs.declared.Mark.{Mark}
-use Rattle.marks.specs.NodeMarks.{marks_of}
-use Rattle.partitions.specs.Classes.{MarkedInstrument, root_classes_of}
-use Rattle.root_words.specs.LastNode.{RootPrepared}
 use Rattle.verdict.specs.Answers.{answer_of}
 use Rattle.answers.specs.Outcomes.{judgement}
 use Rattle.answers.specs.Listing.{listed}
@@ -14,14 +8,8 @@ use Rattle.entry_queries.specs.declared.Written.TheVariants.{Refused}
 use Rattle.entry_queries.specs.Written.{Answered}
 use Rattle.queries.proofs.Lines.{listed_refused, listed_same}
 use Rattle.value_queries.proofs.Telling.{by_marks_lem, by_merging}
+use Rattle.root_words.proofs.LastNode.{own_prepared}
 use Rattle.queries.proofs.listed.write_listing.Goals as goal
-
--- marks and names are the instrument's
-prepared : {t : Instrument} {marks : List (List Mark)} {names : List (List ℕ)} → ((k : Contents) → Describes t k → marks ≡ marks_of (instrument_of k))
-    → ((k : Contents) → MarkedInstrument t marks k → names ≡ root_classes_of (instrument_of k)) → (k : Contents) → Describes t k → RootPrepared t marks names k
-prepared marked named k d =
-    let m = marked k d in
-    record { describes = d; marked = m; named = named k (record { describes = d; marked = m }) }
 
 pub root_classes-names-requires : goal.root_classes-names-requires
 root_classes-names-requires c =
@@ -30,23 +18,23 @@ root_classes-names-requires c =
 
 pub judge_prepared-requires : goal.judge_prepared-requires
 judge_prepared-requires c =
-    let (k, d) = c.requires in (k, prepared c.all_marks-marks.ensures c.root_classes-names.ensures k d)
+    let (k, d) = c.requires in (k, own_prepared c.all_marks-marks.ensures c.root_classes-names.ensures k d)
 
 pub write_lines-requires : goal.write_lines-requires
 write_lines-requires c =
     let (k, d) = c.requires in
-    (_, k, d, (prepared c.all_marks-marks.ensures c.root_classes-names.ensures k d).named)
+    (_, k, d, (own_prepared c.all_marks-marks.ensures c.root_classes-names.ensures k d).named)
 
 pub write_lines-requires-in-Merged : goal.write_lines-requires-in-Merged
 write_lines-requires-in-Merged c =
     let (k, d) = c.requires in
-    (_, k, d, (prepared c.all_marks-marks.ensures c.root_classes-names.ensures k d).named)
+    (_, k, d, (own_prepared c.all_marks-marks.ensures c.root_classes-names.ensures k d).named)
 
 pub returns-in-Oversized : goal.returns-in-Oversized
 returns-in-Oversized c =
     λ k d.
     let old = c.args.out.now in
-    let p = prepared c.all_marks-marks.ensures c.root_classes-names.ensures k d in
+    let p = own_prepared c.all_marks-marks.ensures c.root_classes-names.ensures k d in
     let I = instrument_of k in
     subst (λ a. Answered (listed I (length old) (judgement a)) (Refused MergedSize) old old) (ap answer_of (sym c.in-Oversized.is) ∙ c.judge_prepared.ensures k p)
     (listed_refused I (length old) MergedSize old)
@@ -55,7 +43,7 @@ pub returns-in-Marks : goal.returns-in-Marks
 returns-in-Marks c =
     λ k d.
     let old = c.args.out.now in
-    let p = prepared c.all_marks-marks.ensures c.root_classes-names.ensures k d in
+    let p = own_prepared c.all_marks-marks.ensures c.root_classes-names.ensures k d in
     listed_same (instrument_of k) (length old)
     (by_marks_lem c.in-Marks.holds ∙ ap (λ v. judgement (answer_of v)) (sym c.in-Marks.is) ∙ ap judgement (c.judge_prepared.ensures k p))
     (c.write_lines.ensures _ k d p.named)
@@ -64,7 +52,7 @@ pub returns-in-Merged : goal.returns-in-Merged
 returns-in-Merged c =
     λ k d.
     let old = c.args.out.now in
-    let p = prepared c.all_marks-marks.ensures c.root_classes-names.ensures k d in
+    let p = own_prepared c.all_marks-marks.ensures c.root_classes-names.ensures k d in
     listed_same (instrument_of k) (length old)
     (by_merging c.in-Merged.holds ∙ ap (λ v. judgement (answer_of v)) (sym c.in-Merged.is) ∙ ap judgement (c.judge_prepared.ensures k p))
     (c.write_lines-in-Merged.ensures _ k d p.named)
