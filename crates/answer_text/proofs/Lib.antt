@@ -3,5 +3,6 @@ pub mod Outcomes
 -- each question's text
 pub mod Texts
 pub mod Readings
--- a text in front of a buffer
-pub mod Buffers
+pub mod Marks
+-- the first bytes of an input settle its text
+pub mod Settled

@@ -3,12 +3,13 @@ use mathlib.Core.Path.{◌≡◌, sym, ap}
 use mathlib.Core.List.{List}
 use lib.ListN.{length}
 use Prim.Native.Nat.{ℕ}
+use Rattle.std.specs.Prelude.{Err}
 use Rattle.meaning.specs.File.Parser.{found}
 use Rattle.meaning.specs.File.Grammar.{Contents, instrument_of, read_file}
 use Rattle.meaning.specs.Reference.Answers.{mark_words_of}
 use Rattle.cursor.specs.Answers.{number}
 use Rattle.cursor.specs.declared.Refusal.{Refusal}
-use Rattle.parsing.specs.declared.Outcome.TheVariants.{Refused}
+use Rattle.instrument.specs.declared.Outline.{Outline}
 use Rattle.reader.specs.Outcomes.{Tells}
 use Rattle.answers.specs.Listing.{refusal_line_of, class_lines}
 use Rattle.answers.specs.Lines.{mark_lines}
@@ -17,7 +18,7 @@ use Rattle.answers.specs.Printed.{printed, text_after}
 use Rattle.entry_queries.proofs.Answering.{refused_fault}
 
 module _ (file : List ℕ) where
-  pub marks_refused : (cause : Refusal) → Tells (Refused cause) (read_file file) → refusal_line_of (number cause) ≡ printed marks file
+  pub marks_refused : (cause : Refusal) → Tells {A = Outline} (Err cause) (read_file file) → refusal_line_of (number cause) ≡ printed marks file
   unfolding printed
   marks_refused cause h = sym (ap (λ g. text_after g (λ I. mark_lines (length I.nodes) (mark_words_of I))) (refused_fault (read_file file) cause h))
 
@@ -26,7 +27,7 @@ module _ (file : List ℕ) where
   unfolding printed
   marks_given k end e = sym (ap (λ g. text_after g (λ I. mark_lines (length I.nodes) (mark_words_of I))) e)
 
-  pub classes_refused : (cause : Refusal) → Tells (Refused cause) (read_file file) → refusal_line_of (number cause) ≡ printed classes file
+  pub classes_refused : (cause : Refusal) → Tells {A = Outline} (Err cause) (read_file file) → refusal_line_of (number cause) ≡ printed classes file
   unfolding printed
   classes_refused cause h = sym (ap (λ g. text_after g class_lines) (refused_fault (read_file file) cause h))
 

@@ -5,15 +5,16 @@ use mathlib.Core.Bool.{Bool, true, ◌&&◌}
 use mathlib.Core.List.{List}
 use lib.Dec.{T, leb, leb→le, le→leb}
 use lib.ListN.{length, get_or}
+use native.Mathlib.Decide.{dec_lt}
 use native.Mathlib.Omega.{arith}
 use native.Mathlib.Nat.{pow-suc}
 use Prim.Native.Nat.{ℕ, zero, suc, ◌+◌, ◌-◌, ◌*◌, ◌^◌, ◌≤◌, ◌<◌}
 use Rattle.meaning.specs.Reference.Tests.{all_below}
 use Rattle.meaning.proofs.Basic.Booleans.{and_in, and_l, and_r, is_true, is_false}
 use Rattle.meaning.proofs.Basic.Bounded.{all_out, last_or}
-use Rattle.arguments.specs.declared.Argument.TheVariants.{Number, Unusable}
+use Rattle.std.specs.Prelude.{Option, Some, None}
 use Rattle.answers.specs.Questions.{digit_at, value_before, is_number}
-use Rattle.arguments.specs.Decimal.{argument_of, Digits}
+use Rattle.arguments.specs.Decimal.{number_in, Digits}
 
 ten_up : (n i : ℕ) → i < suc n → 10 ^ i ≤ 10 ^ n
 ten_up zero i l = let e : i ≡ 0 = omega arith in rw e (omega arith)
@@ -48,8 +49,8 @@ module _ (text : List ℕ) where
   bound {i} {v} d = omega (arith, d.small, ten_up 10 i (omega (arith, d.reached, d.short)))
 
   -- the answers
-  unusable_if : (T (is_number text) → ⊥) → Unusable ≡ argument_of text
-  unfolding argument_of
+  unusable_if : (T (is_number text) → ⊥) → None ≡ number_in text
+  unfolding number_in
   unusable_if h = rw (is_false (is_number text) h) refl
 
   abbrev n : ℕ
@@ -61,7 +62,7 @@ module _ (text : List ℕ) where
   abbrev B : Bool
   B = leb (value_before text n) 4294967295
 
-  pub not_long : (1 ≤ n → n ≤ 10 → ⊥) → Unusable ≡ argument_of text
+  pub not_long : (1 ≤ n → n ≤ 10 → ⊥) → None ≡ number_in text
   not_long h =
       unusable_if (λ u. h (leb→le 1 n (and_l (leb 1 n) (leb n 10 && (A && B)) u))
       (leb→le n 10 (and_l (leb n 10) (A && B) (and_r (leb 1 n) (leb n 10 && (A && B)) u))))
@@ -69,26 +70,34 @@ module _ (text : List ℕ) where
   tests : T (is_number text) → T (A && B)
   tests u = and_r (leb n 10) (A && B) (and_r (leb 1 n) (leb n 10 && (A && B)) u)
 
-  pub not_digit : (i : ℕ) → i < n → (48 ≤ get_or text i 0 → get_or text i 0 ≤ 57 → ⊥) → Unusable ≡ argument_of text
+  pub not_digit : (i : ℕ) → i < n → (48 ≤ get_or text i 0 → get_or text i 0 ≤ 57 → ⊥) → None ≡ number_in text
   not_digit i l h =
       unusable_if (λ u.
       let d = all_out n (digit_at text) (and_l A B (tests u)) i l in
       h (leb→le 48 (get_or text i 0) (and_l (leb 48 (get_or text i 0)) (leb (get_or text i 0) 57) d))
       (leb→le (get_or text i 0) 57 (and_r (leb 48 (get_or text i 0)) (leb (get_or text i 0) 57) d)))
 
-  pub too_large : {i v : ℕ} → i ≡ n → Digits text i v → 4294967295 < v → Unusable ≡ argument_of text
+  too_large : {i v : ℕ} → i ≡ n → Digits text i v → 4294967295 < v → None ≡ number_in text
   too_large {i} {v} e d h =
       unusable_if (λ u.
       let q : value_before text n ≤ 4294967295 = leb→le (value_before text n) 4294967295 (and_r A B (tests u)) in
       let s : v ≡ value_before text n = d.value ∙ ap (value_before text) e in
       omega arith)
 
-  pub is_number_lem : {i v : ℕ} → i ≡ n → Digits text i v → v ≤ 4294967295 → Number v ≡ argument_of text
-  unfolding argument_of
+  is_number_lem : {i v : ℕ} → i ≡ n → Digits text i v → v ≤ 4294967295 → Some v ≡ number_in text
+  unfolding number_in
   is_number_lem {i} {v} e d h =
       let s : v ≡ value_before text n = d.value ∙ ap (value_before text) e in
       rw (is_true (is_number text)
       (and_in (leb 1 n) (leb n 10 && (A && B)) (le→leb 1 n d.some)
       (and_in (leb n 10) (A && B) (le→leb n 10 d.short)
       (and_in A B (subst T (sym (subst (λ k. all_below k (digit_at text) ≡ true) e d.all)) tt)
-      (le→leb (value_before text n) 4294967295 (subst (λ w. w ≤ 4294967295) s h)))))) (ap Number s)
+      (le→leb (value_before text n) 4294967295 (subst (λ w. w ≤ 4294967295) s h)))))) (ap Some s)
+
+  -- either way
+  pub number_is : {i v : ℕ} (r : Option ℕ) → i ≡ n → Digits text i v → (v < 2 ^ 32 → r ≡ Some v) → (2 ^ 32 ≤ v → r ≡ None) → r ≡ number_in text
+  number_is {i} {v} r e d f g =
+      elim (dec_lt v 4294967296) [
+        | yes l ↦ f l ∙ is_number_lem e d (omega arith)
+        | no l ↦ g (omega arith) ∙ too_large e d (omega arith)
+      ]

@@ -11,8 +11,11 @@ use native.Mathlib.Omega.{arith}
 use borrow.Author.Tests.{le-leb, lt-leb, ne_eqb}
 use Prim.Native.Nat.compare
 use Prim.Native.Nat.{ℕ, zero, suc, ◌+◌, ◌-◌, ◌≤◌, ◌<◌}
+use Rattle.std.specs.Prelude.{Option, Some, None}
+use Rattle.std.specs.List.{AllWithin, HoldsAt}
+use Rattle.std.specs.Option.{MatchOption}
 use Rattle.answers.specs.Questions.{words_of}
-use Rattle.arguments.specs.Words.{Unspaced, Ends, words_from}
+use Rattle.arguments.specs.Words.{Ends, words_from}
 
 -- the words after the first n bytes of a line and the space behind them
 abbrev behind : ℕ → List ℕ → List (List ℕ)
@@ -65,28 +68,38 @@ next_word line from end h =
         ]
 
 -- the words of a whole line
-pub first_word : (line : List ℕ) (end : ℕ) → Ends line 0 end → words_of line ≡ take (end - 0) line ∷ words_from line (end + 1)
-first_word line end h = sym (ap (λ b. cond b (words_of line) []) (le-leb 0 (length line) (omega arith))) ∙ next_word line 0 end h
+pub first_word : (line : List ℕ) (end : ℕ) → Ends line 0 end → words_of line ≡ take end line ∷ words_from line (end + 1)
+first_word line end h =
+    let e : end - 0 ≡ end = omega arith in
+    sym (ap (λ b. cond b (words_of line) []) (le-leb 0 (length line) (omega arith))) ∙ next_word line 0 end h
+    ∙ ap (λ k. take k line ∷ words_from line (end + 1)) e
 
--- no word begins past the line's end
-pub no_words : (line : List ℕ) (at : ℕ) → length line < at → words_from line at ≡ []
-no_words line at h = rw (lt-leb at (length line) h) refl
+-- where a word ends: the first space behind its place, or the end of the line
+pub word_ends : (line : List ℕ) (from : ℕ) (r : Option ℕ) → from ≤ length line
+    → MatchOption r (AllWithin (λ b. b ≡ 32 → ⊥) (drop from line) 0 (length (drop from line)))
+    (λ i. (i < length (drop from line)) × HoldsAt (λ b. b ≡ 32) (drop from line) i × AllWithin (λ b. b ≡ 32 → ⊥) (drop from line) 0 i)
+    → MatchOption r (Ends line from (length line)) (λ i. Ends line from (from + i))
+word_ends line from r h f = go r f
+  where
+    here : (i : ℕ) → from ≤ i → get_or line i 0 ≡ 32 → get_or (drop from line) (i - from) 0 ≡ 32
+    here i l e = let s : from + (i - from) ≡ i = omega arith in get_or-drop from line (i - from) 0 ∙ ap (λ k. get_or line k 0) s ∙ e
 
--- where a word ends
-module _ (line : List ℕ) (from : ℕ) where
-  pub unspaced_start : from ≤ length line → Unspaced line from from
-  unspaced_start h = record { after = omega arith; within = h; none = λ i a b e. omega arith }
-
-  pub unspaced_more : (at : ℕ) → Unspaced line from at → at < length line → get_or line at 0 ≢ 32 → Unspaced line from (at + 1)
-  unspaced_more at u l other =
-      record {
-        after = omega (arith, u.after);
-        within = omega arith;
-        none = λ i a b. elim (dec_lt i at) [ yes p ↦ u.none i a p | no p ↦ let s : i ≡ at = omega arith in rw s other ];
-      }
-
-  pub ends_space : (at : ℕ) → Unspaced line from at → at < length line → get_or line at 0 ≡ 32 → Ends line from at
-  ends_space at u l e = record { clear = u; stop = λ h. e }
-
-  pub ends_line : (at : ℕ) → Unspaced line from at → length line ≤ at → Ends line from at
-  ends_line at u l = record { clear = u; stop = λ h. absurd (omega arith) }
+    go : (r : Option ℕ)
+        → MatchOption r (AllWithin (λ b. b ≡ 32 → ⊥) (drop from line) 0 (length (drop from line)))
+        (λ i. (i < length (drop from line)) × HoldsAt (λ b. b ≡ 32) (drop from line) i × AllWithin (λ b. b ≡ 32 → ⊥) (drop from line) 0 i)
+        → MatchOption r (Ends line from (length line)) (λ i. Ends line from (from + i))
+    go None f =
+        record {
+          clear = record { after = h; within = omega arith; none = λ i a b e. f (i - from) 0 (omega arith) (omega (arith, length-drop from line)) (here i a e) };
+          stop = λ l. absurd (omega arith);
+        }
+    go (Some n) f =
+        record {
+          clear =
+              record {
+                after = omega arith;
+                within = omega (arith, f.0, length-drop from line);
+                none = λ i a b e. f.2 (i - from) 0 (omega arith) (omega arith) (here i a e);
+              };
+          stop = λ l. sym (get_or-drop from line n 0) ∙ f.1 0;
+        }

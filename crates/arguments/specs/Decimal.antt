@@ -1,12 +1,10 @@
 -- The number that a text writes in decimal digits.
-use Rattle.std.specs.Prelude.{◌≡◌, true, cond, List, length, ℕ, ◌^◌, ◌≤◌, ◌<◌}
+use Rattle.std.specs.Prelude.{◌≡◌, true, cond, Option, Some, None, List, length, ℕ, ◌^◌, ◌≤◌, ◌<◌}
 use Rattle.meaning.specs.Reference.Tests.{all_below}
 use Rattle.answers.specs.Questions.{digit_at, value_before, is_number, number_of}
-use Rattle.arguments.specs.declared.Argument.{Argument}
-use Rattle.arguments.specs.declared.Argument.TheVariants.{Number, Unusable}
 
-unfoldable pub argument_of : List ℕ → Argument
-argument_of text = cond (is_number text) (Number (number_of text)) Unusable
+unfoldable pub number_in : List ℕ → Option ℕ
+number_in text = cond (is_number text) (Some (number_of text)) None
 
 -- the first i bytes are digits with the value v
 pub record Digits (text : List ℕ) (i v : ℕ) : Type 0 where

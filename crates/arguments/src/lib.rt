@@ -6,42 +6,29 @@ mod question; // question.rt: the question of a line
 mod line; // line.rt: the words of a line, and their numbers
 
 ghost use Rattle.std.specs.Prelude.{◌≡◌};
-ghost use Rattle.arguments.specs.Decimal.{argument_of};
+ghost use Rattle.arguments.specs.Decimal.{number_in};
 
 pub use question::{Question, question_of};
 
-// A number, or text that is none.
-#[derive(Drop)]
-pub enum Argument {
-    Number(u32),
-    Unusable,
-}
-
-// The number that the text writes.
-pub fn number(text: &[u8]) -> Argument
-    ensures { result ≡ argument_of text.now }
+// The number that the text writes, or none. What std parses begins with a plus too and may be longer.
+pub fn number(text: &[u8]) -> Option<u32>
+    ensures { result ≡ number_in text.now }
 {
     if text.len() == 0 {
-        return Argument::Unusable;
+        return None;
     }
     if 10 < text.len() {
-        return Argument::Unusable;
+        return None;
     }
     let mut v: u64 = 0;
-    let mut i: usize = 0;
-    while i < text.len() {
-        let b = text[i];
-        if b < 48 {
-            return Argument::Unusable;
+    for &b in text {
+        if b < b'0' {
+            return None;
         }
-        if 57 < b {
-            return Argument::Unusable;
+        if b'9' < b {
+            return None;
         }
-        v = 10 * v + (b - 48) as u64;
-        i += 1;
+        v = 10 * v + (b - b'0') as u64;
     }
-    if 4294967295 < v {
-        return Argument::Unusable;
-    }
-    Argument::Number(v as u32)
+    u32::try_from(v).ok()
 }

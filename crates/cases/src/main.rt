@@ -2,10 +2,9 @@
 // argument is the name of a case: its file has that name, and its questions, a line each, are in the file with `.ask` after it.
 #![tactic(auto)]
 
-ghost use Rattle.std.specs.Prelude.{◌≤◌, length};
 ghost use Rattle.io.specs.Counts.{IsPrefixLen};
 
-use answer_text::{FILE_BYTES, TEXT_BYTES, answer_text};
+use answer_text::{FILE_BYTES, Printed, answer_text};
 use std::fs::File;
 use std::rt::{Env, Files};
 
@@ -14,40 +13,24 @@ fn write(rt: &impl Print, bytes: &[u8]) {
     let _ = rt.write_all(bytes);
 }
 
-// "query full", and the text for that question.
-fn print_answer(rt: &impl Print, question: &[u8], file: &[u8]) {
+// "query full", and the text for that question, which is made in the lent vector.
+fn print_answer(rt: &impl Print, question: &[u8], file: &[u8], text: &mut Printed) {
     write(rt, b"query ");
     write(rt, question);
     write(rt, b"\n");
-    let mut text = [0u8; TEXT_BYTES];
-    let n = answer_text(question, file, &mut text);
-    write(rt, &text[..n]);
+    answer_text(question, file, text);
+    write(rt, text.as_slice());
 }
 
-// Where the line that begins at a place ends.
-fn line_end(lines: &[u8], from: usize) -> usize
-    requires { from ≤ length lines.now }
-    ensures { (from ≤ result) × (result ≤ length lines.now) }
-{
-    let mut at = from;
-    while at < lines.len() {
-        if lines[at] == b'\n' {
-            return at;
-        }
-        at += 1;
-    }
-    at
-}
-
+// The questions stand a line each.
 fn print_case(rt: &impl Print, name: &[u8], file: &[u8], questions: &[u8]) {
     write(rt, b"case ");
     write(rt, name);
     write(rt, b"\n");
-    let mut at: usize = 0;
-    while at < questions.len() {
-        let end = line_end(questions, at);
-        print_answer(rt, &questions[at..end], file);
-        at = end + 1;
+    let mut text = Printed::new();
+    for line in questions.split_inclusive(|byte| *byte == b'\n') {
+        let question = line.strip_suffix(b"\n").unwrap_or(line);
+        print_answer(rt, question, file, &mut text);
     }
 }
 
@@ -73,28 +56,7 @@ fn read_case(rt: &(impl Files + Print), name: &[u8], asked: &[u8]) {
     print_case(rt, name, &file[..n], &questions[..m]);
 }
 
-// The first n bytes with `.ask` after them.
-fn asked_name(name: [u8; 20], n: usize) -> [u8; 20]
-    requires { n ≤ 16 }
-{
-    let mut asked = name;
-    asked[n] = b'.';
-    asked[n + 1] = b'a';
-    asked[n + 2] = b's';
-    asked[n + 3] = b'k';
-    asked
-}
-
-// The case whose name is the first n bytes.
-fn named_case(rt: &(impl Files + Print), name: [u8; 20], n: usize)
-    requires { n ≤ 16 }
-{
-    let asked = asked_name(name, n);
-    let end = n + 4;
-    read_case(rt, &name[0..n], &asked[0..end]);
-}
-
-// The case that argument i names.
+// The case that argument i names: its questions are in the file with `.ask` after that name.
 fn argued_case(rt: &(impl Env + Files + Print), i: usize) {
     let mut name = [0u8; 20];
     let n = host::argument(rt, i, &mut name);
@@ -102,7 +64,9 @@ fn argued_case(rt: &(impl Env + Files + Print), i: usize) {
         write(rt, b"a name has at most 16 characters\n");
         return;
     }
-    named_case(rt, name, n);
+    let mut asked = name;
+    asked[n..n + 4].copy_from_slice(b".ask");
+    read_case(rt, &name[..n], &asked[..n + 4]);
 }
 
 fn main(rt: HostRuntime) {

@@ -19,11 +19,10 @@ pub fn class_names(r: Rows, states: usize) -> Names
     requires { (states ≤ most_states) × classes.Inhabited states r }
     ensures { result ≡ classes.class_names_of r states }
 {
+    // A loop: `rows` of classes makes an array of words, and a name is a byte.
     let mut result = [0u8; Instrument::MAX_STATES];
-    let mut x: usize = 0;
-    while x < states {
+    for x in 0..states {
         result[x] = state_words::lowest(r[x]) as u8;
-        x += 1;
     }
     result
 }
@@ -33,13 +32,12 @@ pub fn class_count(names: Names, states: usize) -> usize
     requires { states ≤ most_states }
     ensures { result ≡ classes.class_count_of names states }
 {
+    // A loop: the clause counts state by state, and a chain would need a law of its own for it.
     let mut count: usize = 0;
-    let mut c: usize = 0;
-    while c < states {
+    for c in 0..states {
         if names[c] as usize == c {
             count += 1;
         }
-        c += 1;
     }
     count
 }
@@ -49,11 +47,10 @@ pub fn member_word(names: Names, states: usize, c: u8) -> StateSet
     requires { states ≤ most_states }
     ensures { result ≡ classes.member_word names states c }
 {
+    // A loop: `filter` would take the set of all states apart, which is more work for each.
     let mut result: StateSet = 0;
-    let mut x: usize = 0;
-    while x < states {
+    for x in 0..states {
         result = put(result, x, names[x] == c);
-        x += 1;
     }
     result
 }

@@ -14,6 +14,7 @@ use Rattle.meaning.specs.Reference.Marks.{pass_b, fail_b}
 use Rattle.meaning.specs.Reference.Relation.{largest_b, rel_b, rule_b}
 use Rattle.meaning.specs.StepWords.{step_table}
 use Rattle.meaning.specs.File.Grammar.{most_states}
+use Rattle.mark_rules.specs.declared.Mark.{Mark}
 use Rattle.classes.specs.Rows.{rel, rows}
 use Rattle.classes.specs.Related.{related_all, related_both, related_ex, related_fixed}
 use Rattle.classes.proofs.Rows.{rel_rows_lem, rows_same}
@@ -30,6 +31,10 @@ module _
     abbrev t : Table
     t = from_words n inputs outputs outs succ
 
+    -- the same as it is lent
+    abbrev lent : Table
+    lent = step_table n (length inputs) succ
+
     -- the relation of a formula as rows, its marks as words
     abbrev pub rel_rows : Formula A → List ℕ
     rel_rows φ = rows n (rel_b t κ φ)
@@ -39,6 +44,9 @@ module _
 
     abbrev pub fail_word : Formula A → ℕ
     fail_word φ = built n (fail_b t κ φ)
+
+    abbrev pub mark_of : Formula A → Mark
+    mark_of φ = record { pass = pass_word φ; fail = fail_word φ }
 
     pub top_rows : related_all n ≡ rel_rows top
     unfolding related_all
@@ -52,12 +60,12 @@ module _
     or_rows φ ψ = rows_same n (λ x y. rel (rel_rows φ) x y && rel (rel_rows ψ) x y) (rel_b t κ (or φ ψ)) m (both_agree (rel_b t κ φ) (rel_b t κ ψ))
 
     pub ex_rows : (φ : Formula A)
-        → related_ex n (length inputs) succ compared (rel_rows φ) (pass_word (ex φ)) (fail_word (ex φ)) (fail_word φ) ≡ rel_rows (ex φ)
+        → related_ex lent compared (rel_rows φ) (mark_of (ex φ)) (fail_word φ) ≡ rel_rows (ex φ)
     unfolding related_ex
     ex_rows φ =
         rows_same n
         (λ x y. rel (rel_rows φ) x y
-        && rule_b (step_table n (length inputs) succ) (λ z. get_or compared z 0) (has (pass_word (ex φ))) (has (fail_word (ex φ))) (has (fail_word φ)) (rel (rel_rows φ)) x y)
+        && rule_b lent (λ z. get_or compared z 0) (has (pass_word (ex φ))) (has (fail_word (ex φ))) (has (fail_word φ)) (rel (rel_rows φ)) x y)
         (rel_b t κ (ex φ)) m (λ x y l k.
         ap₂ (λ a b. a && b) (rel_rows_lem n (rel_b t κ φ) x y m l k)
         (rule_lent n inputs outputs outs succ (λ z. get_or compared z 0) (has (pass_word (ex φ))) (has (fail_word (ex φ))) (has (fail_word φ)) (rel (rel_rows φ)) x y
@@ -67,21 +75,21 @@ module _
 
     -- EG and EU: e is the operands' relation, p and f the marks of the node
     fixed_rows : (operands : List ℕ) (e : ℕ → ℕ → Bool) (p f : ℕ → Bool) → AgreePairs n (rel operands) e
-        → related_fixed n (length inputs) succ compared operands (built n p) (built n f) ≡ rows n (largest_b t κ.compared e p f)
+        → related_fixed lent compared operands (record { pass = built n p; fail = built n f }) ≡ rows n (largest_b t κ.compared e p f)
     unfolding related_fixed
     fixed_rows operands e p f h =
-        rows_same n (largest_b (step_table n (length inputs) succ) (λ z. get_or compared z 0) (rel operands) (has (built n p)) (has (built n f)))
+        rows_same n (largest_b lent (λ z. get_or compared z 0) (rel operands) (has (built n p)) (has (built n f)))
         (largest_b t κ.compared e p f) m (λ x y l k.
         largest_lent n inputs outputs outs succ (λ z. get_or compared z 0) (rel operands) (has (built n p)) (has (built n f)) x y l k
         ∙ largest_agree t (λ z. get_or compared z 0) κ.compared same (has (built n p)) p (has (built n f)) f (has_built n p) (has_built n f)
         (rel operands) e h x y l k)
 
-    pub eg_rows : (φ : Formula A) → related_fixed n (length inputs) succ compared (rel_rows φ) (pass_word (eg φ)) (fail_word (eg φ)) ≡ rel_rows (eg φ)
+    pub eg_rows : (φ : Formula A) → related_fixed lent compared (rel_rows φ) (mark_of (eg φ)) ≡ rel_rows (eg φ)
     eg_rows φ =
         fixed_rows (rel_rows φ) (rel_b t κ φ) (pass_b t κ (eg φ)) (fail_b t κ (eg φ)) (λ x y l k. rel_rows_lem n (rel_b t κ φ) x y m l k)
 
     pub eu_rows : (φ ψ : Formula A)
-        → related_fixed n (length inputs) succ compared (related_both n (rel_rows φ) (rel_rows ψ)) (pass_word (eu φ ψ)) (fail_word (eu φ ψ)) ≡ rel_rows (eu φ ψ)
+        → related_fixed lent compared (related_both n (rel_rows φ) (rel_rows ψ)) (mark_of (eu φ ψ)) ≡ rel_rows (eu φ ψ)
     unfolding related_both
     eu_rows φ ψ =
         fixed_rows (related_both n (rel_rows φ) (rel_rows ψ)) (λ x y. rel_b t κ φ x y && rel_b t κ ψ x y) (pass_b t κ (eu φ ψ)) (fail_b t κ (eu φ ψ)) (λ x y l k.

@@ -1,6 +1,7 @@
 -- The lent steps; rows of words; loops that fill them
 pub mod Component
 pub mod Padded
+pub mod Filled
 pub mod Rows
 pub mod Row
 pub mod Members

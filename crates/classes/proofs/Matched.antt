@@ -16,7 +16,7 @@ use Rattle.meaning.specs.Reference.Truth.{up_to}
 use Rattle.meaning.proofs.Basic.Booleans.{and_in, and_l, and_r, test_eq}
 use Rattle.meaning.proofs.Basic.Bounded.{all_in, all_out}
 use Rattle.meaning.proofs.Meaning.Full.{length_up_to}
-use Rattle.meaning.specs.StepWords.{successor_word}
+use Rattle.meaning.specs.StepWords.{step_table, successor_word}
 use Rattle.classes.specs.Rows.{rel}
 use Rattle.classes.specs.Matching.{matched_on, matched_by}
 use Rattle.classes.specs.Loops.{MatchingOn}
@@ -26,27 +26,30 @@ use Rattle.classes.proofs.Row.{covered_all}
 on_word : (states inputs : ℕ) (succ r : List ℕ) (fail x y a : ℕ)
     → subset (intersection (successor_word inputs succ y a) (complement states fail))
     (built states (λ u. any_below states (λ v. has (successor_word inputs succ x a) v && rel r v u)))
-    ≡ matched_on states inputs succ r fail x y a
+    ≡ matched_on (step_table states inputs succ) r fail x y a
 on_word states inputs succ r fail x y a =
     rw (length_up_to inputs)
     (covered_all states (successor_word inputs succ y a) fail (λ u. any_below states (λ v. has (successor_word inputs succ x a) v && rel r v u)))
 
 module _ (states inputs : ℕ) (succ r : List ℕ) (fail x : ℕ) where
+  count : 2 ^ length (up_to inputs) ≡ 2 ^ inputs
+  count = rw (length_up_to inputs)
+
   -- assignment a, and those below it
   abbrev one : ℕ → ℕ → Bool
-  one a y = matched_on states inputs succ r fail x y a
+  one a y = matched_on (step_table states inputs succ) r fail x y a
 
   abbrev some : ℕ → ℕ → ℕ → Bool
   some among a y = has among y && all_below a (λ a. one a y)
 
-  pub matching_start : (among : ℕ) → among < 2 ^ states → MatchingOn states inputs succ r fail x among among 0
+  pub matching_start : (among : ℕ) → among < 2 ^ states → MatchingOn (step_table states inputs succ) r fail x among among 0
   matching_start among l =
       record {
         bound = omega arith;
         word = sym (built_has states among l) ∙ built_same states (has among) (some among 0) (λ y k. sym (and_true (has among y)));
       }
 
-  module _ {among w a m : ℕ} (h : MatchingOn states inputs succ r fail x among w a) (l : a < 2 ^ inputs)
+  module _ {among w a m : ℕ} (h : MatchingOn (step_table states inputs succ) r fail x among w a) (l : a < 2 ^ inputs)
       (em : m ≡ built states (λ u. any_below states (λ v. has (successor_word inputs succ x a) v && rel r v u))) where
     here : (y : ℕ) → y < states → has w y ≡ some among a y
     here y k = ap (λ w. has w y) h.word ∙ has_built states (some among a) y k
@@ -63,29 +66,26 @@ module _ (states inputs : ℕ) (succ r : List ℕ) (fail x : ℕ) where
 
     -- the states whose successors on a are not all matched have been taken out
     pub matching_more : {v : ℕ} → v ≡ built states (λ y. has w y && subset (intersection (successor_word inputs succ y a) (complement states fail)) m)
-        → MatchingOn states inputs succ r fail x among v (a + 1)
+        → MatchingOn (step_table states inputs succ) r fail x among v (a + 1)
     matching_more {v} ev =
         record {
-          bound = omega arith;
+          bound = omega (arith, count);
           word = rw (add-one a) (ev ∙ built_same states
               (λ y. has w y && subset (intersection (successor_word inputs succ y a) (complement states fail)) m) (some among (suc a)) (λ y k.
               ap₂ (λ p q. p && q) (here y k) (on y) ∙ regroup (has among y) (all_below a (λ a. one a y)) (one a y)));
         }
 
-  count : 2 ^ length (up_to inputs) ≡ 2 ^ inputs
-  count = rw (length_up_to inputs)
-
-  module _ {among w a : ℕ} (h : MatchingOn states inputs succ r fail x among w a) where
+  module _ {among w a : ℕ} (h : MatchingOn (step_table states inputs succ) r fail x among w a) where
     pub matching_narrow : w < 2 ^ states
     matching_narrow = rw h.word (built_lt states (some among a))
 
-    pub matching_end : 2 ^ inputs ≤ a → w ≡ built states (λ y. has among y && matched_by states inputs succ r fail x y)
+    pub matching_end : 2 ^ inputs ≤ a → w ≡ built states (λ y. has among y && matched_by (step_table states inputs succ) r fail x y)
     matching_end l =
         let e : a ≡ 2 ^ length (up_to inputs) = let b = h.bound in omega (arith, count) in
         h.word ∙ ap (λ z. built states (some among z)) e
 
     -- no state is left
-    pub matching_none : w ≡ 0 → w ≡ built states (λ y. has among y && matched_by states inputs succ r fail x y)
+    pub matching_none : w ≡ 0 → w ≡ built states (λ y. has among y && matched_by (step_table states inputs succ) r fail x y)
     matching_none e =
         h.word ∙ built_same states (some among a) (some among (2 ^ length (up_to inputs))) (λ y k.
         test_eq (some among a y) (some among (2 ^ length (up_to inputs)) y)

@@ -1,21 +1,20 @@
--- Start, turn and end of loops over the members of a set: their rows united, those that fail a test taken out.
-use mathlib.Core.Path.{◌≡◌, refl, sym, subst, ap, ◌∙◌}
+-- Start, turn and end of the loop that unites the rows of a set's members; a test that each member passes.
+use mathlib.Core.Path.{◌≡◌, sym, subst, ap, ◌∙◌}
 use mathlib.Core.Logic.{◌⊎◌, inl, inr, ◌≢◌}
-use mathlib.Core.Bool.{Bool, true, false, ◌&&◌, ◌||◌, cond}
+use mathlib.Core.Bool.{Bool, ◌&&◌, ◌||◌}
 use mathlib.Core.List.{List}
 use lib.Dec.{T}
 use lib.ListN.{get_or}
-use native.Mathlib.Omega.{arith}
 use Prim.Native.Nat.{ℕ, ◌^◌, ◌<◌}
-use Rattle.words.specs.Sets.{has, built, below, complement, insert, intersection, union, subset, without, lowest}
-use Rattle.words.proofs.Members.{has_intersection, has_lt, has_none, has_union, intersection_le, intersection_lt_r, same_members, subset_in, subset_out}
-use Rattle.words.proofs.Built.{built_has, built_lt, built_same, has_built, less_in, less_out}
+use Rattle.words.specs.Sets.{has, built, below, intersection, union, subset, without, lowest}
+use Rattle.words.proofs.Members.{has_intersection, has_lt, has_none, has_union, intersection_lt_r, subset_in, subset_out}
+use Rattle.words.proofs.Built.{built_has, built_same}
 use Rattle.words.proofs.Passing.{passing_start, passing_next, passing_more, passing_end}
 use Rattle.meaning.specs.Tests.{any_below}
 use Rattle.meaning.proofs.Basic.Booleans.{and_in, and_l, and_r, and_when, is_true, or_l, or_r, or_out, test_eq}
 use Rattle.meaning.proofs.Basic.Bounded.{any_in, any_out}
 use Rattle.classes.specs.Rows.{rel}
-use Rattle.classes.specs.Loops.{Joining, Sifting}
+use Rattle.classes.specs.Loops.{Joining}
 use Rattle.classes.proofs.Row.{cut_row}
 
 -- ---- the rows of the members united
@@ -58,52 +57,9 @@ joining_end n {w} {r} {m} f h =
     some : ℕ → ℕ → Bool
     some u v = has w v && rel r v u
 
--- ---- those that fail a test taken out
-pub sifting_start : (f : ℕ → Bool) (w : ℕ) → Sifting f w w w
-sifting_start f w = record { passing = passing_start w _; keeps = λ t h p. h; only = λ t h. h; less = omega arith }
-
-module _ (k : ℕ) {f : ℕ → Bool} {w result rest : ℕ} (h : Sifting f w result rest) (b : w < 2 ^ k) (n : rest ≢ 0) where
-  abbrev z : ℕ
-  z = lowest k rest
-
-  module _ {left : ℕ} (d : left ≡ without k rest z) where
-    -- the lowest fails
-    sifting_out : (T (f z) → ⊥) → Sifting f w (without k result z) left
-    unfolding without
-    sifting_out p =
-        record {
-          passing = passing_more k h.passing b n d (λ t q i. q (less_out k result z t i).1) (λ i. absurd ((less_out k result z z i).0 refl));
-          keeps = λ t i q.
-              less_in k result z t (has_lt k result t (omega (arith, h.less)) (h.keeps t i q)) (λ o. p (subst (λ t. T (f t)) (sym o) q))
-              (h.keeps t i q);
-          only = λ t i. h.only t (less_out k result z t i).1;
-          less = omega (arith, h.less, intersection_le result (complement k (insert 0 z)));
-        }
-
-    pub sifting_more : (p : Bool) {less : ℕ} → p ≡ f z → less ≡ cond p result (without k result z) → Sifting f w less left
-    sifting_more true e g =
-        rw g
-        (record {
-          passing = passing_more k h.passing b n d (λ t q. q) (λ i. subst T e tt);
-          keeps = h.keeps;
-          only = h.only;
-          less = h.less;
-        })
-    sifting_more false e g = rw g (sifting_out (λ q. subst T (sym e) q))
-
-pub sifting_end : (n : ℕ) {f : ℕ → Bool} {w result : ℕ} → w < 2 ^ n → Sifting f w result 0 → result ≡ built n (λ t. has w t && f t)
-sifting_end n {f} {w} {result} b h =
-    same_members n result (built n both) (omega (arith, h.less)) (built_lt n both) (λ t l.
-    test_eq (has result t) (has w t && f t) (λ i. and_in (has w t) (f t) (h.only t i) (passing_end h.passing t (h.only t i) i))
-    (λ i. h.keeps t (and_l (has w t) (f t) i) (and_r (has w t) (f t) i))
-    ∙ sym (has_built n both t l))
-  where
-    both : ℕ → Bool
-    both t = has w t && f t
-
 -- a test that every member passes
-pub sifting_none : (n : ℕ) (f : ℕ → Bool) (w : ℕ) → w < 2 ^ n → ((t : ℕ) → T (f t)) → w ≡ built n (λ t. has w t && f t)
-sifting_none n f w b h =
+pub passed_all : (n : ℕ) (f : ℕ → Bool) (w : ℕ) → w < 2 ^ n → ((t : ℕ) → T (f t)) → w ≡ built n (λ t. has w t && f t)
+passed_all n f w b h =
     sym (built_has n w b) ∙ built_same n (has w) (λ t. has w t && f t) (λ t l. sym (and_when (has w t) (f t) (is_true (f t) (h t))))
 
 -- what lies in m lies there also where it is cut

@@ -11,6 +11,7 @@ use Rattle.words.proofs.Built.{built_same, cut_built, has_built, has_complement,
 use Rattle.meaning.specs.Reference.Tests.{all_below}
 use Rattle.meaning.proofs.Basic.Booleans.{test_eq, imp_in, imp_out}
 use Rattle.meaning.proofs.Basic.Bounded.{all_in, all_out}
+use Rattle.mark_rules.specs.declared.Mark.{Mark}
 use Rattle.classes.specs.Matching.{kept}
 
 pub has_picked : (b : Bool) (w y : ℕ) → has (cond b w 0) y ≡ (b && has w y)
@@ -33,24 +34,24 @@ cut_narrow n w = intersection_lt n (below n) w (below_lt n)
 pub both_row : (n a b : ℕ) → intersection (below n) (intersection a b) ≡ built n (λ y. has a y && has b y)
 both_row n a b = cut_row n (intersection a b) (λ y. has a y && has b y) (λ y l. has_intersection a b y)
 
-pub kept_row : (n own pass fail alike x : ℕ)
-    → intersection (below n) (intersection own (union (cond (has pass x) pass 0) (union (cond (has fail x) fail 0) alike)))
-    ≡ kept n own pass fail alike x
+pub kept_row : (n own : ℕ) (m : Mark) (alike x : ℕ)
+    → intersection (below n) (intersection own (union (cond (has m.pass x) m.pass 0) (union (cond (has m.fail x) m.fail 0) alike)))
+    ≡ kept n own m alike x
 unfolding kept
-kept_row n own pass fail alike x =
+kept_row n own m alike x =
     cut_row n (intersection own (union p (union f alike)))
-    (λ y. has own y && ((has pass x && has pass y) || ((has fail x && has fail y) || has alike y))) (λ y l.
+    (λ y. has own y && ((has m.pass x && has m.pass y) || ((has m.fail x && has m.fail y) || has alike y))) (λ y l.
     has_intersection own (union p (union f alike)) y
     ∙ ap (λ b. has own y && b)
     (has_union p (union f alike) y
-    ∙ ap₂ (λ a b. a || b) (has_picked (has pass x) pass y)
-    (has_union f alike y ∙ ap (λ a. a || has alike y) (has_picked (has fail x) fail y))))
+    ∙ ap₂ (λ a b. a || b) (has_picked (has m.pass x) m.pass y)
+    (has_union f alike y ∙ ap (λ a. a || has alike y) (has_picked (has m.fail x) m.fail y))))
   where
     p : ℕ
-    p = cond (has pass x) pass 0
+    p = cond (has m.pass x) m.pass 0
 
     f : ℕ
-    f = cond (has fail x) fail 0
+    f = cond (has m.fail x) m.fail 0
 
 -- a state that is tested to be in a row need not be tested again
 own_alone : (o p q m g : Bool) → (o && (p || (q || ((o && m) && g)))) ≡ (o && (p || (q || (g && m))))
@@ -60,22 +61,28 @@ own_alone true p q false true = refl
 own_alone true p q false false = refl
 own_alone false p q m g = refl
 
--- what is kept of a row r, where the alike are those of it that are in two rows f and b and pass g
-pub ruled_row : (n r pass fail x f b : ℕ) (g : ℕ → Bool) {own alike : ℕ} → own ≡ intersection (below n) r
-    → alike ≡ built n (λ y. has (intersection own (intersection f b)) y && g y)
-    → kept n own pass fail alike x
-    ≡ built n (λ y. has r y && ((has pass x && has pass y) || ((has fail x && has fail y) || (g y && (has f y && has b y)))))
-unfolding kept
-ruled_row n r pass fail x f b g {own} {alike} e a =
-    built_same n (λ y. has own y && ((has pass x && has pass y) || ((has fail x && has fail y) || has alike y)))
-    (λ y. has r y && ((has pass x && has pass y) || ((has fail x && has fail y) || (g y && (has f y && has b y))))) (λ y l.
-    ap₂ (λ o z. o && ((has pass x && has pass y) || ((has fail x && has fail y) || z))) (own_at y l)
-    (ap (λ v. has v y) a ∙ (has_built n (λ y. has (intersection own (intersection f b)) y && g y) y l
-    ∙ ap (λ z. z && g y) (has_intersection own (intersection f b) y ∙ ap₂ (λ o z. o && z) (own_at y l) (has_intersection f b y))))
-    ∙ own_alone (has r y) (has pass x && has pass y) (has fail x && has fail y) (has f y && has b y) (g y))
-  where
-    own_at : (y : ℕ) → y < n → has own y ≡ has r y
-    own_at y l = ap (λ v. has v y) (e ∙ cut_built n r) ∙ has_built n (has r) y l
+-- what is kept of a row r, where the alike are those of it that are in v and pass g
+module _ (n r : ℕ) (m : Mark) (x : ℕ) (g : ℕ → Bool) where
+  pub ruled_row : (v : ℕ) {own alike : ℕ} → own ≡ intersection (below n) r → alike ≡ built n (λ y. has (intersection own v) y && g y)
+      → kept n own m alike x ≡ built n (λ y. has r y && ((has m.pass x && has m.pass y) || ((has m.fail x && has m.fail y) || (g y && has v y))))
+  unfolding kept
+  ruled_row v {own} {alike} e a =
+      built_same n (λ y. has own y && ((has m.pass x && has m.pass y) || ((has m.fail x && has m.fail y) || has alike y)))
+      (λ y. has r y && ((has m.pass x && has m.pass y) || ((has m.fail x && has m.fail y) || (g y && has v y)))) (λ y l.
+      ap₂ (λ o z. o && ((has m.pass x && has m.pass y) || ((has m.fail x && has m.fail y) || z))) (own_at y l)
+      (ap (λ w. has w y) a ∙ (has_built n (λ y. has (intersection own v) y && g y) y l
+      ∙ ap (λ z. z && g y) (has_intersection own v y ∙ ap (λ o. o && has v y) (own_at y l))))
+      ∙ own_alone (has r y) (has m.pass x && has m.pass y) (has m.fail x && has m.fail y) (has v y) (g y))
+    where
+      own_at : (y : ℕ) → y < n → has own y ≡ has r y
+      own_at y l = ap (λ v. has v y) (e ∙ cut_built n r) ∙ has_built n (has r) y l
+
+  -- v are those in f and in b
+  pub ruled_both : (f b v : ℕ) {w : ℕ} → ((y : ℕ) → y < n → has v y ≡ (has f y && has b y))
+      → w ≡ built n (λ y. has r y && ((has m.pass x && has m.pass y) || ((has m.fail x && has m.fail y) || (g y && has v y))))
+      → w ≡ built n (λ y. has r y && ((has m.pass x && has m.pass y) || ((has m.fail x && has m.fail y) || (g y && (has f y && has b y)))))
+  ruled_both f b v h d =
+      d ∙ built_same n _ _ (λ y l. ap (λ z. has r y && ((has m.pass x && has m.pass y) || ((has m.fail x && has m.fail y) || (g y && z)))) (h y l))
 
 -- the states with the level of x, where the states with level true are given
 beq_true : (c : Bool) → c ≡ beq true c

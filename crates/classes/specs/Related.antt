@@ -4,7 +4,8 @@ use Rattle.std.specs.Prelude.{true, ◌&&◌, List, get_or, ℕ}
 use Rattle.std.specs.Bool.{beq}
 use Rattle.words.specs.Sets.{has}
 use Rattle.meaning.specs.Reference.Relation.{rule_b, largest_b}
-use Rattle.meaning.specs.StepWords.{step_table}
+use Rattle.meaning.specs.Table.{Table}
+use Rattle.mark_rules.specs.declared.Mark.{Mark}
 use Rattle.classes.specs.Rows.{rel, rows}
 
 -- "True, foreign signal: always."
@@ -19,15 +20,14 @@ related_level outs n j = rows n (λ x y. beq (has (get_or outs x 0) j) (has (get
 unfoldable pub related_both : ℕ → List ℕ → List ℕ → List ℕ
 related_both n a b = rows n (λ x y. rel a x y && rel b x y)
 
-module _ (states inputs : ℕ) (succ compared : List ℕ) where
+module _ (t : Table) (compared : List ℕ) where
   -- EX: related for the operand, and "both PASS, or both FAIL, of the node; or equal output words, and on every assignment each non-FAIL
   -- successor of either has a related successor of the other", where the words are those that are compared, and non-FAIL and related are those
   -- of the operand
-  unfoldable pub related_ex : List ℕ → ℕ → ℕ → ℕ → List ℕ
-  related_ex operand pass fail operandFail =
-      rows states (λ x y. rel operand x y
-      && rule_b (step_table states inputs succ) (λ z. get_or compared z 0) (has pass) (has fail) (has operandFail) (rel operand) x y)
+  unfoldable pub related_ex : List ℕ → Mark → ℕ → List ℕ
+  related_ex operand m operandFail =
+      rows t.states (λ x y. rel operand x y && rule_b t (λ z. get_or compared z 0) (has m.pass) (has m.fail) (has operandFail) (rel operand) x y)
 
   -- EG, EU: the largest relation inside the operands' that keeps the same rule, where FAIL and related are those of the node itself
-  unfoldable pub related_fixed : List ℕ → ℕ → ℕ → List ℕ
-  related_fixed operands pass fail = rows states (largest_b (step_table states inputs succ) (λ z. get_or compared z 0) (rel operands) (has pass) (has fail))
+  unfoldable pub related_fixed : List ℕ → Mark → List ℕ
+  related_fixed operands m = rows t.states (largest_b t (λ z. get_or compared z 0) (rel operands) (has m.pass) (has m.fail))

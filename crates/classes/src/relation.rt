@@ -1,7 +1,8 @@
 // Relations as rows: all pairs, same level of an output, pairs of two relations, the converse.
-ghost use Rattle.std.specs.Prelude.{◌≡◌, cond, ◌≤◌, ◌<◌, length, get_or};
-ghost use Rattle.words.specs.Sets.{has, built, insert, union};
+ghost use Rattle.std.specs.Prelude.{◌≡◌, cond, ℕ, ◌≤◌, ◌<◌, length};
+ghost use Rattle.words.specs.Sets.{insert, union};
 ghost use Rattle.meaning.specs.File.Grammar.{most_states};
+ghost use Rattle.classes.specs.Rows.{RowsOf};
 ghost use Rattle.classes.specs.Related.{related_all, related_level, related_both};
 ghost use Rattle.classes.specs.Matching.{conversed};
 ghost use Rattle.classes.specs.Changed.{Changed};
@@ -20,11 +21,24 @@ pub fn put(w: StateSet, t: usize, yes: bool) -> StateSet
     if yes { state_words::insert(w, t) } else { w }
 }
 
-// a if yes, else b.
+// a if yes, else b. A function, since an `if` at each place where it is called is no plainer.
 pub fn pick(yes: bool, a: StateSet, b: StateSet) -> StateSet
     ensures { result ≡ cond yes a b }
 {
     if yes { a } else { b }
+}
+
+// A row for each state, and nothing past the last one.
+pub fn rows<F: Fn(usize) -> StateSet>(states: usize, row: F) -> Rows
+    requires few { states ≤ most_states }
+    requires callable { (x : ℕ) → x < states → F.pre row x }
+    ensures { RowsOf (λ x w. F.post row x w) states result }
+{
+    let mut result = [0; Instrument::MAX_STATES];
+    for x in 0..states {
+        result[x] = row(x);
+    }
+    result
 }
 
 // Every state is related to every state (true, foreign signal).
@@ -33,27 +47,7 @@ pub fn rel_all(states: usize) -> Rows
     ensures { result ≡ related_all states }
 {
     let all = state_words::below(states);
-    let mut result = [0; Instrument::MAX_STATES];
-    let mut x: usize = 0;
-    while x < states {
-        result[x] = all;
-        x += 1;
-    }
-    result
-}
-
-// The states whose word has bit j.
-fn level_word(outs: &[u32], states: usize, j: u32) -> StateSet
-    requires { (states ≤ most_states) × (states ≤ length outs.now) × (j < 32) }
-    ensures { result ≡ built states (λ y. has (get_or outs.now y 0) j) }
-{
-    let mut result: StateSet = 0;
-    let mut y: usize = 0;
-    while y < states {
-        result = put(result, y, words::member(outs[y], j));
-        y += 1;
-    }
-    result
+    rows(states, |_| all)
 }
 
 // States with the same level of the j-th listed output are related (own signal).
@@ -61,15 +55,18 @@ pub fn rel_level(outs: &[u32], states: usize, j: u32) -> Rows
     requires { (states ≤ most_states) × (states ≤ length outs.now) × (j < 32) }
     ensures { result ≡ related_level outs.now states j }
 {
-    let high = level_word(outs, states, j);
-    let low = state_words::complement(high, states);
-    let mut result = [0; Instrument::MAX_STATES];
-    let mut x: usize = 0;
-    while x < states {
-        result[x] = pick(words::member(outs[x], j), high, low);
-        x += 1;
+    // A loop: `filter` would take the set of all states apart, which is more work for each.
+    let mut high: StateSet = 0;
+    for y in 0..states {
+        high = put(high, y, words::member(outs[y], j));
     }
-    result
+    let low = state_words::complement(high, states);
+    rows(
+        states,
+        |x|
+            requires { (x < length outs.now) × (j < 32) }
+        { pick(words::member(outs[x], j), high, low) },
+    )
 }
 
 // What is related by both (operands of or, EU).
@@ -78,13 +75,9 @@ pub fn rel_both(a: &Rows, b: &Rows, states: usize) -> Rows
     ensures { result ≡ related_both states a.now b.now }
 {
     let all = state_words::below(states);
-    let mut result = [0; Instrument::MAX_STATES];
-    let mut x: usize = 0;
-    while x < states {
-        result[x] = state_words::intersection(all, state_words::intersection(a[x], b[x]));
-        x += 1;
-    }
-    result
+    rows(states, |x| {
+        state_words::intersection(all, state_words::intersection(a[x], b[x]))
+    })
 }
 
 // Puts `more` into the words at some places.
@@ -92,11 +85,8 @@ pub fn mark(words: &mut Rows, places: StateSet, more: StateSet)
     requires { length words.old ≡ most_states }
     ensures { Changed (union more) places words.old words.new }
 {
-    let mut rest = places;
-    while rest != 0 {
-        let z = state_words::lowest(rest);
+    for z in state_words::members(places) {
         words[z] = state_words::union(more, words[z]);
-        rest = state_words::without_lowest(rest);
     }
 }
 
@@ -107,11 +97,9 @@ pub fn converse(r: &Rows, states: usize) -> Rows
 {
     let all = state_words::below(states);
     let mut result = [0; Instrument::MAX_STATES];
-    let mut x: usize = 0;
-    while x < states {
+    for x in 0..states {
         let related = state_words::intersection(all, r[x]);
         mark(&mut result, related, state_words::insert(0, x));
-        x += 1;
     }
     result
 }

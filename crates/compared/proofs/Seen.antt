@@ -5,7 +5,7 @@ use mathlib.Core.List.{List}
 use lib.ListN.{length, get_or}
 use native.Mathlib.Nat.{zero-add}
 use native.Mathlib.Omega.{arith}
-use Prim.Native.Nat.{ℕ, ◌+◌, ◌≤◌, ◌<◌}
+use Prim.Native.Nat.{ℕ, ◌≤◌, ◌<◌}
 use Rattle.words.specs.Sets.{built, has, intersection}
 use Rattle.words.proofs.Built.{built_same}
 use Rattle.meaning.specs.Tests.{any_below}
@@ -20,7 +20,7 @@ use Rattle.meaning.proofs.File.Members.{all_at}
 use Rattle.meaning.proofs.Marks.Compared.{read_anywhere}
 use Rattle.instrument.specs.declared.Instrument.{Instrument}
 use Rattle.instrument.specs.Described.{Describes}
-use Rattle.united.specs.Signals.{Signals}
+use Rattle.united.specs.Signals.{Signals, Named}
 use Rattle.united.specs.Inputs.{reads}
 use Rattle.united.proofs.Inputs.{read_word}
 use Rattle.classes.specs.Rows.{padded}
@@ -28,12 +28,14 @@ use Rattle.classes.proofs.Padded.{padded_at}
 use Rattle.compared.specs.Compared.{ReadSignals, compared_words, outputs_in}
 
 -- the words under a mask that was read off the outputs
-pub words_under : (states : ℕ) (outputs outs : List ℕ) (read mask : ℕ) → mask ≡ built (length outputs) (λ j. has read (get_or outputs (0 + j) 0))
+pub words_under : (states : ℕ) (outputs outs : List ℕ) (read mask : ℕ) → mask ≡ built (length outputs) (λ j. has read (get_or outputs j 0))
     → padded most_states states (λ x. intersection mask (get_or outs x 0)) ≡ compared_words states outputs outs read
 unfolding compared_words
-words_under states outputs outs read mask e =
-    ap (λ m. padded most_states states (λ x. intersection m (get_or outs x 0)))
-    (e ∙ built_same (length outputs) _ _ (λ j l. ap (λ p. has read (get_or outputs p 0)) (zero-add j)))
+words_under states outputs outs read mask e = ap (λ m. padded most_states states (λ x. intersection m (get_or outs x 0))) e
+
+-- signals from the start of a list to its end
+pub signals_named : {list : List ℕ} → Signals list 0 (length list) → Named list
+signals_named h = record { few = h.few; small = λ j l. rw zero-add at (h.small j l) }
 
 -- the signals that are read off an instrument's arrays are those that its components list
 pub signals_read : (t : Instrument) (k : Contents) → Describes t k → (read : ℕ)

@@ -5,7 +5,7 @@ use lib.ListN.{length, get_or}
 use lib.Pow.{pow-add, pow_mono}
 use native.Mathlib.Nat.{not-suc-le-zero, le_trans, mul-add, mul_assoc, mul-suc, mul-le-mul_left, mul-le-mul_right}
 use native.Mathlib.Omega.{arith}
-use borrow.Author.Tests.{lt-ltb, le-ltb}
+use borrow.Author.Tests.{lt-ltb}
 use Prim.Native.Nat.{ℕ, zero, suc, ◌+◌, ◌-◌, ◌*◌, ◌%◌, ◌^◌, ◌≤◌, ◌<◌}
 use Rattle.meaning.specs.File.Parser.{Got, found, fault}
 use Rattle.meaning.specs.File.Number.{with_higher}
@@ -15,18 +15,10 @@ use Rattle.cursor.specs.Width.{number_end}
 use Rattle.cursor.proofs.Numbers.{groups_at, goes_on}
 
 module _ (weight value : ℕ) where
-  -- the three ways in which the highest group ends a number
+  -- a highest group that is not 0 ends a number
   pub carried_some : (v at : ℕ) → 0 < v → carried weight value (found v at) ≡ found (value + weight * v) at
   carried_some zero at h = absurd (not-suc-le-zero h)
   carried_some (suc v) at h = refl
-
-  pub carried_long : (v at : ℕ) → v ≤ 0 → 1 < weight → carried weight value (found v at) ≡ fault 2
-  carried_long zero at h l = rw (lt-ltb 1 weight l)
-  carried_long (suc v) at h l = absurd (not-suc-le-zero h)
-
-  pub carried_none : (v at : ℕ) → v ≤ 0 → weight ≤ 1 → carried weight value (found v at) ≡ found value at
-  carried_none zero at h l = rw (le-ltb 1 weight l)
-  carried_none (suc v) at h l = absurd (not-suc-le-zero h)
 
   -- a group more is carried
   carried_more : (g : ℕ) (r : Got ℕ) → 0 < weight
@@ -38,23 +30,7 @@ module _ (weight value : ℕ) where
       carried_some (g + 128 * suc v) at (omega arith) ∙ ap (λ (w : ℕ). found w at) e
   carried_more g (fault r) h = refl
 
--- at the beginning nothing is carried
-nothing_carried : (g : Got ℕ) → g ≡ carried 1 0 g
-nothing_carried (found zero at) = refl
-nothing_carried (found (suc v) at) = let e : suc v ≡ 0 + 1 * suc v = omega arith in ap (λ (w : ℕ). found w at) e
-nothing_carried (fault r) = refl
-
 module _ (file : List ℕ) (at more : ℕ) where
-  pub start : Carrying file at more 0 1 at more
-  start =
-      let e : 7 * (more - more) ≡ 0 = omega arith in
-      record {
-        reached = omega arith;
-        scale = sym (ap (λ (k : ℕ). 2 ^ k) e);
-        below = omega arith;
-        same = nothing_carried (groups_at more file at);
-      }
-
   module _ {value weight place left : ℕ} (d : Carrying file at more value weight place left) where
     -- what the groups from the present place on are says what the number is
     pub whole : (g : Got ℕ) → groups_at left file place ≡ g → groups_at more file at ≡ carried weight value g

@@ -1,13 +1,10 @@
--- What the answers say in document 01's words: the number of a refusal, and a number that was read with the place after it.
-use Rattle.std.specs.Prelude.{ℕ}
+-- What the answers say in document 01's words: the number of a refusal, and what was read with the place after it.
+use Rattle.std.specs.Prelude.{◌≡◌, List, ℕ, Result, Ok, Err, IfOk}
 use Rattle.meaning.specs.File.Parser.{Got, found, fault}
+use Rattle.cursor.specs.declared.Cursor.{Cursor}
 use Rattle.cursor.specs.declared.Refusal.{Refusal}
 use Rattle.cursor.specs.declared.Refusal.TheVariants.{Ended, Form, Range, Order, Driven, Bits, Formula, Undriven, Start, Trailing}
 use Rattle.cursor.specs.declared.Refusal.TheVariants.{FullSize, MergedSize, Short}
-use Rattle.cursor.specs.declared.Wide.{Wide}
-use Rattle.cursor.specs.declared.Wide.TheVariants.{Whole, Unread}
-use Rattle.cursor.specs.declared.Read.{Read}
-use Rattle.cursor.specs.declared.Read.TheVariants.{Number, Refused}
 
 -- document 01, Refused
 abbrev pub number : Refusal → ℕ
@@ -38,10 +35,11 @@ number MergedSize = 12
 -- a lent result that is shorter than its entries
 number Short = 13
 
-abbrev pub got_wide : Wide → Got ℕ
-got_wide (Whole v next) = found v next.at
-got_wide (Unread r) = fault (number r)
+-- what was read, with the place after it, or the number of the refusal
+abbrev pub got : {A : Type 0} → Result (A × Cursor) Refusal → Got A
+got (Ok r) = found r.0 r.1.at
+got (Err r) = fault (number r)
 
-abbrev pub got : Read → Got ℕ
-got (Number v next) = found v next.at
-got (Refused r) = fault (number r)
+-- the place after it is one of this file
+abbrev pub InFile : {A : Type 0} → List ℕ → Result (A × Cursor) Refusal → Type 0
+InFile file r = IfOk r (λ r. r.1.file.now ≡ file)

@@ -7,6 +7,7 @@ use lib.ListN.{length}
 use native.Mathlib.Omega.{arith}
 use borrow.Author.Tests.{le-leb, lt-leb}
 use Prim.Native.Nat.{ℕ, ◌≤◌, ◌<◌}
+use Rattle.std.specs.Prelude.{Result, Ok, Err}
 use Rattle.meaning.specs.Instrument.{Instrument, Accepted}
 use Rattle.meaning.specs.File.Parser.{Got, found, fault}
 use Rattle.meaning.specs.File.Number.{choose}
@@ -16,18 +17,15 @@ use Rattle.meaning.proofs.File.Accepted.{file_accepted}
 use Rattle.cursor.specs.Answers.{number}
 use Rattle.cursor.specs.declared.Refusal.{Refusal}
 use Rattle.cursor.specs.declared.Refusal.TheVariants as refusals
-use Rattle.parsing.specs.declared.Outcome as told
-use Rattle.parsing.specs.declared.Outcome.TheVariants as outcomes
+use Rattle.instrument.specs.declared.Outline.{Outline}
 use Rattle.reader.specs.Outcomes.{Tells, Found}
 use Rattle.instrument.specs.declared.Instrument as code
 use Rattle.answers.specs.Outcomes.{after, within}
 use Rattle.answers.specs.Means.{Holds}
-use Rattle.entry_queries.specs.declared.Written.{Written}
-use Rattle.entry_queries.specs.declared.Written.TheVariants.{Entries, Refused}
 use Rattle.entry_queries.specs.Written.{written_number, Answered}
 
-abbrev Told : Type 0
-Told = told.Outcome
+abbrev Written : Type 0
+Written = Result ℕ Refusal
 
 -- every refusal has a number above 0
 pub number_some : (r : Refusal) → number r ≡ 0 → ⊥
@@ -46,21 +44,20 @@ number_some refusals.MergedSize e = absurd (omega arith)
 number_some refusals.Short e = absurd (omega arith)
 
 -- what the reader found
-pub refused_fault : (g : Got Contents) (cause : Refusal) → Tells (outcomes.Refused cause) g → g ≡ fault (number cause)
+pub refused_fault : (g : Got Contents) (cause : Refusal) → Tells {A = Outline} (Err cause) g → g ≡ fault (number cause)
 refused_fault (found k end) cause h = absurd h
 refused_fault (fault r) cause h = ap fault (sym h)
 
 module _ (f : Instrument → Outcome) where
   -- a refused file: nothing is written
-  pub file_refused : (g : Got Contents) (cause : Refusal) (old : List ℕ) → Tells (outcomes.Refused cause) g → Answered (after g f) (Refused cause) old old
+  pub file_refused : (g : Got Contents) (cause : Refusal) (old : List ℕ) → Tells {A = Outline} (Err cause) g → Answered (after g f) (Err cause) old old
   file_refused (found k end) cause old h = absurd h
   file_refused (fault r) cause old h = record { number = h; count = refl; buffer = refl }
 
-  -- both clauses of such a call: it says nothing of what is meant
-  pub refused_both : {X : Type 0} (file old : List ℕ) (o : Told) (cause : Refusal) → o ≡ outcomes.Refused cause → Tells o (read_file file)
-      → Answered (after (read_file file) f) (Refused cause) old old × (number cause ≡ 0 → X)
-  refused_both file old o cause e h =
-      (file_refused (read_file file) cause old (subst (λ o. Tells o (read_file file)) e h), λ z. absurd (number_some cause z))
+  -- the same by the file's bytes
+  pub refused_answered : (file old : List ℕ) (cause : Refusal) → Tells {A = Outline} (Err cause) (read_file file)
+      → Answered (after (read_file file) f) (Err cause) old old
+  refused_answered file old cause h = file_refused (read_file file) cause old h
 
   -- an accepted one: the outcome of its instrument
   pub file_answered : {file : List ℕ} {t : code.Instrument} (h : Found file t) {r : Written} {old new : List ℕ}
@@ -72,21 +69,21 @@ module _ {old new : List ℕ} {r : Written} where
   pub within_room : (size n : ℕ) (o : Outcome) → size ≤ 4096 → Answered o r old new → Answered (within size n o) r old new
   within_room size n o h a = subst (λ b. Answered (choose b o (refused n)) r old new) (sym (le-leb size 4096 h)) a
 
-pub oversized : (size : ℕ) (o : Outcome) (cause : Refusal) (old : List ℕ) → 4096 < size → Answered (within size (number cause) o) (Refused cause) old old
+pub oversized : (size : ℕ) (o : Outcome) (cause : Refusal) (old : List ℕ) → 4096 < size → Answered (within size (number cause) o) (Err cause) old old
 oversized size o cause old h =
-    subst (λ b. Answered (choose b o (refused (number cause))) (Refused cause) old old) (sym (lt-leb size 4096 h))
+    subst (λ b. Answered (choose b o (refused (number cause))) (Err cause) old old) (sym (lt-leb size 4096 h))
     (record { number = refl; count = refl; buffer = refl })
 
 -- a buffer with so much room
-pub too_short : (vs old : List ℕ) → length old < length vs → Answered (fitting (length old) vs) (Refused refusals.Short) old old
+pub too_short : (vs old : List ℕ) → length old < length vs → Answered (fitting (length old) vs) (Err refusals.Short) old old
 too_short vs old h =
-    subst (λ b. Answered (choose b (entries vs) (refused 13)) (Refused refusals.Short) old old) (sym (lt-leb (length vs) (length old) h))
+    subst (λ b. Answered (choose b (entries vs) (refused 13)) (Err refusals.Short) old old) (sym (lt-leb (length vs) (length old) h))
     (record { number = refl; count = refl; buffer = refl })
 
 pub written : (vs old new : List ℕ) (n : ℕ) → n ≡ length vs → length vs ≤ length old → new ≡ lent_after (entries vs) old
-    → Answered (fitting (length old) vs) (Entries n) old new
+    → Answered (fitting (length old) vs) (Ok n) old new
 written vs old new n e h b =
-    subst (λ c. Answered (choose c (entries vs) (refused 13)) (Entries n) old new) (sym (le-leb (length vs) (length old) h))
+    subst (λ c. Answered (choose c (entries vs) (refused 13)) (Ok n) old new) (sym (le-leb (length vs) (length old) h))
     (record { number = refl; count = e; buffer = b })
 
 -- an accepted answer: the entries are in the buffer

@@ -6,7 +6,7 @@ use lib.Seq.{sets}
 use native.Mathlib.Omega.{arith}
 use Prim.Native.Nat.{ℕ, zero, suc, ◌+◌, ◌*◌, ◌≤◌, ◌<◌}
 use Rattle.meaning.specs.Atoms.{Atom}
-use Rattle.meaning.specs.File.Parser.{on, list_of, found}
+use Rattle.meaning.specs.File.Parser.{Got, Done, done, on, list_of, found}
 use Rattle.meaning.specs.Nodes as formula
 use Rattle.meaning.specs.File.Grammar.{Component, Contents, limits, less_than, start_state, start}
 use Rattle.meaning.proofs.File.Lists.{list_none, list_more}
@@ -14,7 +14,11 @@ use Rattle.instrument.specs.declared.Instrument.{Instrument}
 use Rattle.instrument.specs.declared.Node.{Node}
 use Rattle.instrument.specs.Layout.{layout, node_of, row, rows}
 use Rattle.instrument.proofs.Rows.{filled_at, rows_more}
+use Rattle.parsing.specs.Stages.{mapped}
+use Rattle.parsing.specs.Faults.{start_before}
+use Rattle.parsing.proofs.Faults.{before_whole, before_few}
 use Rattle.parsing.proofs.Parsers.{on_each}
+use Rattle.parsing.proofs.Parts.{row_of, put_row, in_row}
 use Rattle.parsing.proofs.Stores.{sets_map}
 use Rattle.parsing.proofs.Times.{contents}
 use Rattle.formulas.specs.Formulas.{start_by}
@@ -58,6 +62,22 @@ pub start_more : (width : ℕ) (l m l₀ : List ℕ) (j : ℕ) (ss : List (List 
 start_more width l m l₀ j ss s q p h =
     let e : j ≡ 0 + length ss = omega arith in
     p ∙ ap₂ (λ (l : List ℕ) (i : ℕ). sets l (width * i) s) h e ∙ rows_more width ss 0 l₀ s
+
+module _ (sizes : List ℕ) (n : ℕ) (file : List ℕ) (at : ℕ) where
+  -- a start of so many states is asked for as a part of an array has places for
+  pub start_asked : (g : Got Done) (k : ℕ) → g ≡ mapped (λ vs. done) (start_by sizes k file at) → k ≡ n
+      → g ≡ mapped (λ vs. done) (start_by sizes n file at)
+  start_asked g k e l = e ∙ ap (λ k. mapped (λ vs. done) (start_by sizes k file at)) l
+
+  -- and stored in part j
+  pub start_stored : (j : ℕ) (l part s : List ℕ) (end : ℕ) → n ≤ limits.components → limits.components * j + limits.components ≤ length l
+      → start_by sizes n file at ≡ found s end
+      → part ≡ sets (row_of limits.components j n l) 0 (start_before sizes (length (row_of limits.components j n l)) file at)
+      → put_row limits.components j n l part ≡ sets l (limits.components * j) s
+  start_stored j l part s end few room q h =
+      in_row limits.components j n l few room (λ k. start_before sizes k file at) part
+      (before_few (start_state limits sizes) (λ c v. c + 1) file n 0 at) h
+      ∙ ap (sets l (limits.components * j)) (before_whole (start_state limits sizes) (λ c v. c + 1) file n 0 at s end q)
 
 module _ (t : Instrument) (k : Contents) (e : t ≡ layout k) where
   pub without_nodes : t.nodecount ≤ 0 → k.nodes ≡ []

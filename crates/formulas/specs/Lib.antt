@@ -1,3 +1,2 @@
 pub mod Stages
 pub mod Formulas
-pub mod Steps

@@ -1,109 +1,77 @@
 // A node of the formula.
-ghost use Rattle.std.specs.Prelude.{◌≡◌, ◌≤◌};
+ghost use Rattle.std.specs.Prelude.{List, ℕ, ◌≡◌, ◌≤◌};
 ghost use Rattle.meaning.specs.File.Grammar.{limits, named, operands, node};
-ghost use Rattle.cursor.specs.Answers.{got};
+ghost use Rattle.cursor.specs.Answers.{got, InFile};
 ghost use Rattle.instrument.specs.Layout.{node_of};
 ghost use Rattle.parsing.specs.Stages.{mapped};
-ghost use Rattle.formulas.specs.Formulas.{got_node, one_operand, two_operands};
+ghost use Rattle.formulas.specs.Formulas.{one_operand, two_operands};
 
-use cursor::{Cursor, Number, Read, Refusal, Wide};
+use cursor::{Cursor, Number, Read, Refusal};
 use instrument::Node;
 
-// A node with the place after it, or why it is refused.
-#[derive(Drop)]
-pub enum NodeRead {
-    Known(Node, Cursor),
-    Unknown(Refusal),
-}
-
 // A signal of the file that a component drives.
-fn named(file: &[u8], from: Cursor, w: u32, driven: u32) -> Read
+#[tactic(auto, unfolding(meaning::specs::File::Grammar::named))]
+fn named(from: Cursor<'_>, w: u32, driven: u32) -> Read<'_, u32>
     requires { w ≤ limits.signals }
-    ensures { got result ≡ named limits w driven file.now from.at }
+    ensures answer { got result ≡ named limits w driven from.entry.file.now from.entry.at }
+    ensures same_file { InFile from.entry.file.now result }
 {
-    match from.number(file) {
-        Wide::Unread(r) => Read::Refused(r),
-        Wide::Whole(v, next) => {
-            if w as Number <= v {
-                return Read::Refused(Refusal::Undriven);
-            }
-            let signal = v as u32;
-            if words::member(driven, signal) {
-                return Read::Number(signal, next);
-            }
-            Read::Refused(Refusal::Undriven)
-        }
+    let (v, next) = from.number()?;
+    if w as Number <= v {
+        return Err(Refusal::Undriven);
     }
+    let signal = v as u32;
+    if words::member(driven, signal) {
+        return Ok((signal, next));
+    }
+    Err(Refusal::Undriven)
 }
 
 // A node of one operand.
-fn unary(kind: u32, operand: Read) -> NodeRead
-    ensures { got_node result ≡ mapped (one_operand kind) (got operand) }
+fn unary<'a>(kind: u32, operand: Read<'a, u32>) -> Read<'a, Node>
+    ensures answer { got result ≡ mapped (one_operand kind) (got operand.entry) }
+    ensures same_file { (file : List ℕ) → InFile file operand.entry → InFile file result }
 {
-    match operand {
-        Read::Refused(r) => NodeRead::Unknown(r),
-        Read::Number(v, next) => NodeRead::Known(
-            Node {
-                kind,
-                left: v,
-                right: 0,
-            },
-            next,
-        ),
-    }
+    let (left, next) = operand?;
+    let right = 0;
+    Ok((Node { kind, left, right }, next))
 }
 
 // A node of two operands, both earlier nodes.
-fn binary(file: &[u8], from: Cursor, kind: u32, k: u32) -> NodeRead
-    ensures { got_node result ≡ two_operands kind k file.now from.at }
+fn binary(from: Cursor<'_>, kind: u32, k: u32) -> Read<'_, Node>
+    ensures answer { got result ≡ two_operands kind k from.entry.file.now from.entry.at }
+    ensures same_file { InFile from.entry.file.now result }
 {
-    match from.less_than(file, k, Refusal::Formula) {
-        Read::Refused(r) => NodeRead::Unknown(r),
-        Read::Number(v, next) => match next.less_than(file, k, Refusal::Formula) {
-            Read::Refused(r) => NodeRead::Unknown(r),
-            Read::Number(u, end) => NodeRead::Known(
-                Node {
-                    kind,
-                    left: v,
-                    right: u,
-                },
-                end,
-            ),
-        },
-    }
+    let (left, second) = from.less_than(k, Refusal::Formula)?;
+    let (right, next) = second.less_than(k, Refusal::Formula)?;
+    Ok((Node { kind, left, right }, next))
 }
 
 // Node k of this kind, with its operands.
-fn operands(file: &[u8], from: Cursor, w: u32, driven: u32, k: u32, kind: Number) -> NodeRead
+fn operands(from: Cursor<'_>, w: u32, driven: u32, k: u32, kind: Number) -> Read<'_, Node>
     requires { w ≤ limits.signals }
-    ensures { got_node result ≡ mapped node_of (operands limits w driven k kind file.now from.at) }
+    ensures answer { got result ≡ mapped node_of (operands limits w driven k kind from.entry.file.now from.entry.at) }
+    ensures same_file { InFile from.entry.file.now result }
 {
     match kind {
-        0 => NodeRead::Known(
-            Node {
-                kind: 0,
-                left: 0,
-                right: 0,
-            },
-            from,
-        ),
-        1 => unary(1, named(file, from, w, driven)),
-        2 => unary(2, from.less_than(file, k, Refusal::Formula)),
-        3 => binary(file, from, 3, k),
-        4 => unary(4, from.less_than(file, k, Refusal::Formula)),
-        5 => unary(5, from.less_than(file, k, Refusal::Formula)),
-        6 => binary(file, from, 6, k),
-        7.. => NodeRead::Unknown(Refusal::Formula),
+        0 => Ok((Node::TRUE, from)),
+        1 => unary(1, named(from, w, driven)),
+        2 => unary(2, from.less_than(k, Refusal::Formula)),
+        3 => binary(from, 3, k),
+        4 => unary(4, from.less_than(k, Refusal::Formula)),
+        5 => unary(5, from.less_than(k, Refusal::Formula)),
+        6 => binary(from, 6, k),
+        7.. => Err(Refusal::Formula),
     }
 }
 
 // Node k: its kind, then its operands.
-pub fn node(file: &[u8], from: Cursor, w: u32, driven: u32, k: u32) -> NodeRead
+#[tactic(auto, unfolding(meaning::specs::File::Grammar::node))]
+pub fn node(from: Cursor<'_>, w: u32, driven: u32, k: u32) -> Read<'_, Node>
     requires { w ≤ limits.signals }
-    ensures { got_node result ≡ mapped node_of (node limits w driven k file.now from.at) }
+    ensures answer { got result ≡ mapped node_of (node limits w driven k from.entry.file.now from.entry.at) }
+    ensures same_file { InFile from.entry.file.now result }
 {
-    match from.number(file) {
-        Wide::Unread(r) => NodeRead::Unknown(r),
-        Wide::Whole(kind, next) => operands(file, next, w, driven, k, kind),
-    }
+    let (kind, next) = from.number()?;
+    operands(next, w, driven, k, kind)
 }

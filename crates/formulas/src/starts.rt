@@ -2,94 +2,52 @@
 ghost use Rattle.std.specs.Prelude.{◌≡◌, ◌≤◌};
 ghost use Rattle.meaning.specs.File.Parser.{repeat};
 ghost use Rattle.meaning.specs.File.Grammar.{limits};
+ghost use Rattle.cursor.specs.Answers.{got, InFile};
 ghost use Rattle.parsing.specs.Stages.{mapped};
-ghost use Rattle.formulas.specs.Formulas.{start_by, starts_in, StartsAre, refused_starts, starts_after};
+ghost use Rattle.formulas.specs.Formulas.{start_by, start_list, all_starts};
 
 use cursor::{Cursor, Read, Refusal};
 use instrument::Instrument;
-use parsing::lists::Moved;
-use parsing::{Outcome, lists};
+use parsing::lists;
 
-// So many starts from the front of an array on and the place after them, or why they are refused; then there are none.
-#[derive(Drop)]
+// So many starts from the front of an array on.
+#[derive(Clone, Copy)]
 pub struct StartList {
-    pub outcome: Outcome,
-    pub at: usize,
     pub count: u32,
     pub starts: [u32; Instrument::ALL_STARTS],
 }
 
-// The list of a file that is refused.
-fn no_starts(r: Refusal) -> StartList
-    ensures { result ≡ refused_starts r }
-{
-    StartList {
-        outcome: Outcome::Refused(r),
-        at: 0,
-        count: 0,
-        starts: [0u32; Instrument::ALL_STARTS],
-    }
-}
-
 // So many starts of n components of these sizes.
-fn all_starts(
-    file: &[u8],
-    from: Cursor,
+fn counted_starts(
+    from: Cursor<'_>,
     count: u32,
     n: usize,
     sizes: [u32; Instrument::MAX_COMPONENTS],
-) -> StartList
+) -> Read<'_, StartList>
     requires { (count ≤ limits.starts) × (n ≤ limits.components) }
-    ensures { StartsAre result (mapped starts_in (repeat (start_by sizes n) count file.now from.at)) }
+    ensures answer { got result ≡ mapped start_list (repeat (start_by sizes n) count from.entry.file.now from.entry.at) }
+    ensures same_file { InFile from.entry.file.now result }
 {
-    let mut list = [0u32; Instrument::ALL_STARTS];
+    let mut starts = [0; Instrument::ALL_STARTS];
     let mut place = from;
-    let mut j: u32 = 0;
-    while j < count {
-        match lists::start(
-            file,
-            place,
-            n,
-            sizes,
-            &mut list,
-            Instrument::MAX_COMPONENTS * (j as usize),
-        ) {
-            Moved::Stopped(r) => {
-                return no_starts(r);
-            }
-            Moved::To(next) => {
-                place = next;
-            }
-        }
-        j += 1;
+    for j in 0..count {
+        let base = Instrument::MAX_COMPONENTS * j as usize;
+        place = lists::start(place, sizes, &mut starts[base..base + n])?;
     }
-    StartList {
-        outcome: Outcome::Accepted,
-        at: place.at,
-        count,
-        starts: list,
-    }
+    Ok((StartList { count, starts }, place))
 }
 
-// The start count and the starts of n components of these sizes, if the file is accepted so far.
+// The start count and the starts of n components of these sizes.
+#[tactic(auto, unfolding(meaning::specs::File::Grammar::between))]
 pub fn starts(
-    file: &[u8],
-    so_far: Outcome,
-    from: Cursor,
+    from: Cursor<'_>,
     n: u32,
     sizes: [u32; Instrument::MAX_COMPONENTS],
-) -> StartList
+) -> Read<'_, StartList>
     requires { n ≤ limits.components }
-    ensures { StartsAre result (starts_after so_far from.at sizes n file.now) }
+    ensures answer { got result ≡ mapped start_list (all_starts sizes n from.entry.file.now from.entry.at) }
+    ensures same_file { InFile from.entry.file.now result }
 {
-    match so_far {
-        Outcome::Refused(r) => no_starts(r),
-        Outcome::Accepted => {
-            let most = Instrument::MAX_STARTS as u32;
-            match from.between(file, 0, most, Refusal::Range) {
-                Read::Refused(r) => no_starts(r),
-                Read::Number(count, first) => all_starts(file, first, count, n as usize, sizes),
-            }
-        }
-    }
+    let (count, first) = from.between(0, Instrument::MAX_STARTS as u32, Refusal::Range)?;
+    counted_starts(first, count, n as usize, sizes)
 }

@@ -3,12 +3,12 @@
 // end, what was read is the file; an empty one is `refused 1`.
 #![tactic(auto)]
 
-use answer_text::{FILE_BYTES, TEXT_BYTES, answer_text};
+use answer_text::{FILE_BYTES, Printed, answer_text};
 
 fn main(rt: HostRuntime) {
     let mut file = [0u8; FILE_BYTES];
     let n = host::read_full(&mut rt.reader(), &mut file);
-    let mut text = [0u8; TEXT_BYTES];
-    let m = answer_text(b"listing", &file[..n], &mut text);
-    let _ = rt.write_all(&text[..m]);
+    let mut text = Printed::new();
+    answer_text(b"listing", &file[..n], &mut text);
+    let _ = rt.write_all(text.as_slice());
 }

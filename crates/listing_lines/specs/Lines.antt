@@ -1,21 +1,7 @@
 -- What the lines of the listing are made from (document 01, Verdict and listing).
-use Rattle.std.specs.Prelude.{Bool, true, false, List, [], ◌++◌, get_or, length, ℕ}
-use Rattle.meaning.specs.Verdict.{Verdict, Stage, holds, fails, marks, merged}
+use Rattle.std.specs.Prelude.{List, [], ◌++◌, get_or, length, ℕ}
 use Rattle.meaning.specs.Reference.Answers.{join_below}
-use Rattle.answers.specs.Outcomes.{Judgement}
 use Rattle.answers.specs.Listing.{decimal, space, class_line}
-
--- "holds" or "fails", and by marks or by the merged combination
-abbrev pub verdict_from : Bool → Verdict
-verdict_from true = holds
-verdict_from false = fails
-
-abbrev pub stage_from : Bool → Stage
-stage_from true = marks
-stage_from false = merged
-
-abbrev pub judgement_from : Bool → Bool → Judgement
-judgement_from h m = record { verdict = verdict_from h; stage = stage_from m }
 
 -- the names of so many states, each after a space
 abbrev pub spaced_names : ℕ → (ℕ → ℕ) → List ℕ

@@ -1,162 +1,123 @@
-// The lines of the listing, each put into a buffer from a place on; the result is the place after it (document 01, Verdict and listing). The specs of
-// crate `answers` define their bytes.
+// The lines of the listing, each put behind what a text has (document 01, Verdict and listing). The specs of crate `answers` define their bytes.
 #![tactic(auto)]
 
-ghost use Rattle.std.specs.Prelude.{◌++◌, ℕ, ◌+◌, ◌≤◌, ◌<◌, length, get_or};
+ghost use Rattle.std.specs.Prelude.{◌++◌, ℕ, ◌≤◌, ◌<◌, get_or};
 ghost use Rattle.meaning.specs.File.Grammar.{limits, most_states};
-ghost use Rattle.answers.specs.Listing.{decimal, space, line_end, verdict_word, stage_word};
-ghost use Rattle.answers.specs.Listing.{verdict_line, class_line, size_line, refusal_line_of};
+ghost use Rattle.arrayvec.specs.ArrayVec.{Extends};
+ghost use Rattle.answers.specs.Listing.{decimal, space, verdict_line, class_line, size_line, refusal_line_of};
 ghost use Rattle.answers.specs.Outcomes.{given};
 ghost use Rattle.answers.specs.Lines.{judgement_line};
-ghost use Rattle.text.specs.Texts.{Put, Room};
-ghost use Rattle.listing_lines.specs.Lines.{verdict_from, stage_from, judgement_from, names_text, named_line, class_lines};
+ghost use Rattle.judgement.specs.Judged.{judgement_of};
+ghost use Rattle.text.specs.Texts.{Room};
+ghost use Rattle.listing_lines.specs.Lines.{names_text, named_line, class_lines};
 
+use arrayvec::ArrayVec;
 use instrument::Instrument;
+use judgement::Judgement;
 use text::{byte, decimal, word};
 
-// "holds" or "fails".
-fn verdict_word(holds: bool, out: &mut [u8], at: usize) -> usize
-    requires { at + 5 ≤ length out.old }
-    ensures { Put (verdict_word (verdict_from holds)) at result out.old out.new }
-{
-    if holds {
-        return word(b"holds", out, at);
-    }
-    word(b"fails", out, at)
-}
-
-// "marks" or "merged".
-fn stage_word(by_marks: bool, out: &mut [u8], at: usize) -> usize
-    requires { at + 6 ≤ length out.old }
-    ensures { Put (stage_word (stage_from by_marks)) at result out.old out.new }
-{
-    if by_marks {
-        return word(b"marks", out, at);
-    }
-    word(b"merged", out, at)
-}
-
-// " marks" and the end of the line.
-fn stage_end(by_marks: bool, out: &mut [u8], at: usize) -> usize
-    requires { at + 8 ≤ length out.old }
-    ensures { Put (space ++ (stage_word (stage_from by_marks) ++ line_end)) at result out.old out.new }
-{
-    let spaced = byte(b' ', out, at);
-    let staged = stage_word(by_marks, out, spaced);
-    byte(b'\n', out, staged)
-}
-
 // "fails marks".
-pub fn judgement_line(holds: bool, by_marks: bool, out: &mut [u8], at: usize) -> usize
-    requires { at + 13 ≤ length out.old }
-    ensures { Put (judgement_line (given (judgement_from holds by_marks))) at result out.old out.new }
+pub fn judgement_line<const CAP: usize>(judgement: Judgement, out: &mut ArrayVec<u8, CAP>)
+    requires { Room (judgement_line (given (judgement_of judgement))) CAP out.old }
+    ensures { Extends out.old (judgement_line (given (judgement_of judgement))) out.new }
 {
-    let judged = verdict_word(holds, out, at);
-    stage_end(by_marks, out, judged)
+    word(judgement.verdict_word(), out);
+    byte(b' ', out);
+    word(judgement.stage.word(), out);
+    byte(b'\n', out);
 }
 
 // "verdict fails marks".
-pub fn verdict_line(holds: bool, by_marks: bool, out: &mut [u8], at: usize) -> usize
-    requires { at + 21 ≤ length out.old }
-    ensures { Put (verdict_line (judgement_from holds by_marks)) at result out.old out.new }
+pub fn verdict_line<const CAP: usize>(judgement: Judgement, out: &mut ArrayVec<u8, CAP>)
+    requires { Room (verdict_line (judgement_of judgement)) CAP out.old }
+    ensures { Extends out.old (verdict_line (judgement_of judgement)) out.new }
 {
-    let label = word(b"verdict ", out, at);
-    judgement_line(holds, by_marks, out, label)
+    word(b"verdict ", out);
+    judgement_line(judgement, out);
 }
 
 // A class name after a space.
-fn spaced_name(name: u8, out: &mut [u8], at: usize) -> usize
-    requires { Room (space ++ decimal name) at out.old }
-    ensures { Put (space ++ decimal name) at result out.old out.new }
+fn spaced_name<const CAP: usize>(name: u8, out: &mut ArrayVec<u8, CAP>)
+    requires { Room (space ++ decimal name) CAP out.old }
+    ensures { Extends out.old (space ++ decimal name) out.new }
 {
-    let spaced = byte(b' ', out, at);
-    decimal(name as u64, out, spaced)
+    byte(b' ', out);
+    decimal(name as u64, out);
 }
 
 // The class names of a component's states.
-fn spaced_names(names: &[u8], out: &mut [u8], at: usize) -> usize
-    requires { Room (names_text names.now) at out.old }
-    ensures { Put (names_text names.now) at result out.old out.new }
+fn spaced_names<const CAP: usize>(names: &[u8], out: &mut ArrayVec<u8, CAP>)
+    requires { Room (names_text names.now) CAP out.old }
+    ensures { Extends out.old (names_text names.now) out.new }
 {
-    let mut next = at;
-    let mut x: usize = 0;
-    while x < names.len() {
-        next = spaced_name(names[x], out, next);
-        x += 1;
+    for &name in names {
+        spaced_name(name, out);
     }
-    next
 }
 
 // A number between two words.
-fn numbered(label: &[u8], v: u32, end: &[u8], out: &mut [u8], at: usize) -> usize
-    requires { Room (label.now ++ (decimal v ++ end.now)) at out.old }
-    ensures { Put (label.now ++ (decimal v ++ end.now)) at result out.old out.new }
+fn numbered<const CAP: usize>(label: &[u8], v: u32, end: &[u8], out: &mut ArrayVec<u8, CAP>)
+    requires { Room (label.now ++ (decimal v ++ end.now)) CAP out.old }
+    ensures { Extends out.old (label.now ++ (decimal v ++ end.now)) out.new }
 {
-    let labelled = word(label, out, at);
-    let written = decimal(v as u64, out, labelled);
-    word(end, out, written)
+    word(label, out);
+    decimal(v as u64, out);
+    word(end, out);
 }
 
 // "component 0 classes 0 0 2".
-pub fn class_line(c: u32, names: &[u8], out: &mut [u8], at: usize) -> usize
-    requires { Room (named_line c names.now) at out.old }
-    ensures { Put (named_line c names.now) at result out.old out.new }
+pub fn class_line<const CAP: usize>(c: u32, names: &[u8], out: &mut ArrayVec<u8, CAP>)
+    requires { Room (named_line c names.now) CAP out.old }
+    ensures { Extends out.old (named_line c names.now) out.new }
 {
-    let label = numbered(b"component ", c, b" classes", out, at);
-    let named = spaced_names(names, out, label);
-    byte(b'\n', out, named)
+    numbered(b"component ", c, b" classes", out);
+    spaced_names(names, out);
+    byte(b'\n', out);
 }
 
 // The line of component c with so many states and these names.
-fn component_line(
+fn component_line<const CAP: usize>(
     c: usize,
     states: u32,
     names: [u8; Instrument::MAX_STATES],
-    out: &mut [u8],
-    at: usize,
-) -> usize
-    requires { (c < limits.components) × (states ≤ most_states) × (Room (class_line c states (λ x. get_or names x 0)) at out.old) }
-    ensures { Put (class_line c states (λ x. get_or names x 0)) at result out.old out.new }
+    out: &mut ArrayVec<u8, CAP>,
+)
+    requires { (c < limits.components) × (states ≤ most_states) × (Room (class_line c states (λ x. get_or names x 0)) CAP out.old) }
+    ensures { Extends out.old (class_line c states (λ x. get_or names x 0)) out.new }
 {
-    let n = states as usize;
-    class_line(c as u32, &names[0..n], out, at)
+    class_line(c as u32, &names[..states as usize], out);
 }
 
 // The class lines of so many components, from their state counts and their rows of names.
-pub fn class_lines(
+pub fn class_lines<const CAP: usize>(
     components: usize,
     states: [u32; Instrument::MAX_COMPONENTS],
     names: [[u8; Instrument::MAX_STATES]; Instrument::MAX_COMPONENTS],
-    out: &mut [u8],
-    at: usize,
-) -> usize
+    out: &mut ArrayVec<u8, CAP>,
+)
     requires components_le_components { (components ≤ limits.components) × ((i : ℕ) → i < components → get_or states i 0 ≤ most_states) }
-    requires room { Room (class_lines components states names) at out.old }
-    ensures { Put (class_lines components states names) at result out.old out.new }
+    requires room { Room (class_lines components states names) CAP out.old }
+    ensures { Extends out.old (class_lines components states names) out.new }
 {
-    let mut next = at;
-    let mut c: usize = 0;
-    while c < components {
-        next = component_line(c, states[c], names[c], out, next);
-        c += 1;
+    for c in 0..components {
+        component_line(c, states[c], names[c], out);
     }
-    next
 }
 
 // "merged 2 of 3".
-pub fn size_line(merged: u32, full: u32, out: &mut [u8], at: usize) -> usize
-    requires { Room (size_line merged full) at out.old }
-    ensures { Put (size_line merged full) at result out.old out.new }
+pub fn size_line<const CAP: usize>(merged: u32, full: u32, out: &mut ArrayVec<u8, CAP>)
+    requires { Room (size_line merged full) CAP out.old }
+    ensures { Extends out.old (size_line merged full) out.new }
 {
-    let label = numbered(b"merged ", merged, b" of ", out, at);
-    let sized = decimal(full as u64, out, label);
-    byte(b'\n', out, sized)
+    numbered(b"merged ", merged, b" of ", out);
+    decimal(full as u64, out);
+    byte(b'\n', out);
 }
 
 // "refused 1".
-pub fn refusal_line(number: u32, out: &mut [u8], at: usize) -> usize
-    requires { Room (refusal_line_of number) at out.old }
-    ensures { Put (refusal_line_of number) at result out.old out.new }
+pub fn refusal_line<const CAP: usize>(number: u32, out: &mut ArrayVec<u8, CAP>)
+    requires { Room (refusal_line_of number) CAP out.old }
+    ensures { Extends out.old (refusal_line_of number) out.new }
 {
-    numbered(b"refused ", number, b"\n", out, at)
+    numbered(b"refused ", number, b"\n", out);
 }

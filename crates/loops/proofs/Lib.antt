@@ -3,3 +3,4 @@ pub mod Folded
 pub mod Searched
 pub mod Stored
 pub mod Written
+pub mod Parts

@@ -12,7 +12,7 @@ use Rattle.meaning.specs.Atoms.{Atom, on_signal}
 use Rattle.meaning.specs.Formula as formula
 use Rattle.meaning.specs.Formula.{Formula}
 use Rattle.meaning.specs.Nodes.{Node, top, node_at, formula_at}
-use Rattle.meaning.specs.Table.{Table, from_words}
+use Rattle.meaning.specs.Table.{Table}
 use Rattle.meaning.specs.Reference.Answers.{list_below}
 use Rattle.meaning.specs.Reference.Truth.{up_to}
 use Rattle.meaning.specs.View.{View, atoms}
@@ -22,6 +22,8 @@ use Rattle.meaning.proofs.File.Nodes.{formula_at_lem}
 use Rattle.meaning.proofs.Rules.{Follows, node_value}
 use Rattle.meaning.proofs.Meaning.Full.{length_up_to}
 use Rattle.instrument.specs.declared.Node as stored
+use Rattle.instrument.specs.declared.component.Component.{Component}
+use Rattle.instrument.specs.Component.{reading_table}
 use Rattle.instrument.specs.Layout.{node_of}
 use Rattle.instrument.specs.ByKind.{Operands}
 use Rattle.instrument.proofs.Nodes.{kind_has_lem, operands_in}
@@ -42,15 +44,18 @@ pub operands_listed : (nodes : List stored.Node) (count : ℕ) (ns : List (Node 
 operands_listed nodes count ns l k h =
     operands_in (get_or nodes k (node_of top)) (node_at ns k) (l.at k) (λ i o. omega (arith, l.earlier k i o, l.long, l.room))
 
-module _ (n : ℕ) (ins outputs outs succ : List ℕ) (κ : View Atom) (sees : Sees (from_words n ins outputs outs succ) κ) where
+module _ (r : Component) (ins : List ℕ) (counted : length ins ≡ r.table.inputs) (κ : View Atom) (sees : Sees (reading_table r ins) κ) where
+  abbrev n : ℕ
+  n = r.table.states
+
   abbrev t : Table
-  t = from_words n ins outputs outs succ
+  t = reading_table r ins
 
   abbrev of : Formula Atom → Mark
   of φ = formula_mark t κ φ
 
   abbrev rules : Rules Atom Mark
-  rules = mark_rules n (length ins) outputs outs succ
+  rules = mark_rules r
 
   signals_of : (a : Atom) → rules.atom a ≡ of (formula.atom a)
   unfolding signal_mark
@@ -65,9 +70,9 @@ module _ (n : ℕ) (ins outputs outs succ : List ℕ) (κ : View Atom) (sees : S
         atom = signals_of;
         neg = λ φ. refl;
         or = formula_or t κ;
-        ex = λ φ. ex_steps n ins outputs outs succ (of φ) ∙ formula_ex t κ φ;
-        eg = λ φ. eg_steps n ins outputs outs succ (of φ) ∙ formula_eg t κ φ;
-        eu = λ φ ψ. eu_steps n ins outputs outs succ (of φ) (of ψ) ∙ formula_eu t κ φ ψ;
+        ex = λ φ. ex_steps n r.table.inputs ins r.outputs.now r.outs.now r.table.succ.now counted (of φ) ∙ formula_ex t κ φ;
+        eg = λ φ. eg_steps n r.table.inputs ins r.outputs.now r.outs.now r.table.succ.now counted (of φ) ∙ formula_eg t κ φ;
+        eu = λ φ ψ. eu_steps n r.table.inputs ins r.outputs.now r.outs.now r.table.succ.now counted (of φ) (of ψ) ∙ formula_eu t κ φ ψ;
       }
 
   -- the nodes of a formula one after the other
@@ -77,7 +82,7 @@ module _ (n : ℕ) (ins outputs outs succ : List ℕ) (κ : View Atom) (sees : S
 
     node_formula : (k : ℕ) (m : List Mark) → k < count → Written (replicate 24 no_mark) 0 count (λ k. mark_at k ∷ []) k m
         → let node = get_or nodes k (node_of top) in
-        rule_mark n (length ins) outputs outs succ node (operand_mark m node.left) (operand_mark m node.right) ≡ mark_at k
+        rule_mark r node (operand_mark m node.left) (operand_mark m node.right) ≡ mark_at k
     node_formula k m h w =
         rw (l.at k, formula_at_lem ns l.earlier k)
         (kind_has_lem rules no_mark (operand_mark m) (node_at ns k)
@@ -99,39 +104,38 @@ module _ (n : ℕ) (ins outputs outs succ : List ℕ) (κ : View Atom) (sees : S
         room = omega (arith, l.long, l.room)
 
 -- the loop over the nodes
-module _ (states inputs : ℕ) (outputs outs succ : List ℕ) (nodes : List stored.Node) (count : ℕ) where
-  abbrev Marked : ℕ → List Mark → Type 0
-  Marked k m = Marking states inputs outputs outs succ nodes count k m
+module _ (r : Component) (nodes : List stored.Node) where
+  pub marking_start : Marking r nodes 0 (replicate 24 no_mark)
+  marking_start = record { reached = omega arith; each = λ ins e κ v ns l. written_start (replicate 24 no_mark) 0 (length nodes) _ }
 
-  pub marking_start : Marked 0 (replicate 24 no_mark)
-  marking_start = record { reached = omega arith; each = λ ins e κ v ns l. written_start (replicate 24 no_mark) 0 count _ }
-
-  pub marking_more : (k : ℕ) (m : List Mark) (v : Mark) → k < count
-      → (let node = get_or nodes k (node_of top) in v ≡ rule_mark states inputs outputs outs succ node (operand_mark m node.left) (operand_mark m node.right))
-      → Marked k m → Marked (k + 1) (set m k v)
+  pub marking_more : (k : ℕ) (m : List Mark) (v : Mark) → k < length nodes
+      → (let node = get_or nodes k (node_of top) in v ≡ rule_mark r node (operand_mark m node.left) (operand_mark m node.right))
+      → Marking r nodes k m → Marking r nodes (k + 1) (set m k v)
   marking_more k m v h e s =
       record {
         reached = omega arith;
         each =
             λ ins q κ u ns l.
-            singles_more (λ k. formula_mark (from_words states ins outputs outs succ) κ (formula_at ns k)) (replicate 24 no_mark) count k m v h
-            (rw (← q) at e ∙ node_formula states ins outputs outs succ κ u nodes count ns l k m h (s.each ins q κ u ns l)) (s.each ins q κ u ns l);
+            singles_more (λ k. formula_mark (reading_table r ins) κ (formula_at ns k)) (replicate 24 no_mark) (length nodes) k m v h
+            (e ∙ node_formula r ins q κ u nodes (length nodes) ns l k m h (s.each ins q κ u ns l)) (s.each ins q κ u ns l);
       }
 
-  pub marking_end : (k : ℕ) (m : List Mark) → count ≡ k → Marked k m → MarkedNodes states inputs outputs outs succ nodes count m
+  pub marking_end : (k : ℕ) (m : List Mark) → length nodes ≡ k → Marking r nodes k m → MarkedNodes r nodes m
   unfolding list_marks
   marking_end k m e s ins q κ u ns l =
-      let g : ℕ → Mark = λ k. formula_mark (from_words states ins outputs outs succ) κ (formula_at ns k) in
-      written_end (replicate 24 no_mark) 0 count (λ k. g k ∷ []) k m e (s.each ins q κ u ns l)
-      ∙ ap (λ vs. sets (replicate 24 no_mark) 0 vs) (join_list g count ∙ ap (λ n. list_below n g) l.long)
+      let g : ℕ → Mark = λ k. formula_mark (reading_table r ins) κ (formula_at ns k) in
+      written_end (replicate 24 no_mark) 0 (length nodes) (λ k. g k ∷ []) k m e (s.each ins q κ u ns l)
+      ∙ ap (λ vs. sets (replicate 24 no_mark) 0 vs) (join_list g (length nodes) ∙ ap (λ n. list_below n g) l.long)
 
   -- the marks so far are of the component's states
-  pub marking_range : (ns : List (Node Atom)) → Listing nodes count ns → (k : ℕ) (m : List Mark) → Marked k m
-      → (j : ℕ) → InRange states (get_or m j no_mark)
+  pub marking_range : (ns : List (Node Atom)) → Listing nodes (length nodes) ns → (k : ℕ) (m : List Mark) → Marking r nodes k m
+      → (j : ℕ) → InRange r.table.states (get_or m j no_mark)
   marking_range ns l k m s j =
-      let t = from_words states (up_to inputs) outputs outs succ in
-      stored_range states (up_to inputs) outputs outs succ (atoms t.out t) (own_view t t.out) nodes count ns l k m s.reached
-      (s.each (up_to inputs) (length_up_to inputs) (atoms t.out t) (own_view t t.out) ns l) j
+      let ins = up_to r.table.inputs in
+      let e = length_up_to r.table.inputs in
+      let t = reading_table r ins in
+      stored_range r ins e (atoms t.out t) (own_view t t.out) nodes (length nodes) ns l k m s.reached
+      (s.each ins e (atoms t.out t) (own_view t t.out) ns l) j
 
 -- two words for each mark
 pub pairs_length : (row : List Mark) (k : ℕ) → length (row_words row k) ≡ 2 * k

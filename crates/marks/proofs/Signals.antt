@@ -16,11 +16,10 @@ use Rattle.meaning.specs.Formula.{atom}
 use Rattle.meaning.specs.View.{atoms}
 use Rattle.meaning.proofs.Basic.Booleans.{and_in, and_l, and_r, test_eq}
 use Rattle.meaning.proofs.Basic.Bounded.{any_in, any_out}
-use Rattle.meaning.proofs.Basic.Lists.{at_listed, listed_at}
-use Rattle.marks.specs.Component.{Ascending}
+use Rattle.meaning.proofs.Basic.Lists.{at_listed}
+use Rattle.instrument.specs.Lists.{Ascending, StandsAt}
 use Rattle.marks.specs.Formulas.{formula_mark}
 use Rattle.marks.specs.NodeMarks.{signal_mark}
-use Rattle.marks.specs.Written.{Unlisted}
 use Rattle.mark_rules.specs.Rules.{foreign_mark, own_mark, own_pass, own_fail}
 use Rattle.mark_rules.proofs.Rules.{mark_is}
 
@@ -78,13 +77,10 @@ once vs a j l i k e =
     ]
 
 module _ (n : ℕ) (outputs outs : List ℕ) (w : ℕ) where
-  pub signal_own : Ascending outputs → (j : ℕ) → j < length outputs → get_or outputs j 0 ≡ w → own_mark n outs j ≡ signal_mark n outputs outs w
+  pub signal_own : Ascending outputs → (j : ℕ) → StandsAt outputs w j → own_mark n outs j ≡ signal_mark n outputs outs w
   unfolding signal_mark
-  signal_own a j l e = rw (← e) (formula_own n [] outputs outs [] j l (once outputs a j l) (λ x. get_or outs x 0))
+  signal_own a j s = rw (← s.is) (formula_own n [] outputs outs [] j s.placed (once outputs a j s.placed) (λ x. get_or outs x 0))
 
-  pub signal_foreign : (j : ℕ) → length outputs ≡ j → Unlisted outputs w j → foreign_mark ≡ signal_mark n outputs outs w
+  pub signal_foreign : listed outputs w ≡ false → foreign_mark ≡ signal_mark n outputs outs w
   unfolding signal_mark
-  signal_foreign j e u =
-      formula_foreign (from_words n [] outputs outs []) (λ x. get_or outs x 0) w
-      (test_eq (listed outputs w) false
-      (λ h. let (i, l, q) = listed_at outputs w h in u.each i (omega arith) q) (λ h. absurd h))
+  signal_foreign e = formula_foreign (from_words n [] outputs outs []) (λ x. get_or outs x 0) w e

@@ -1,4 +1,3 @@
-pub mod Component
 pub mod Formulas
 pub mod Written
 pub mod NodeMarks

@@ -20,7 +20,9 @@ use Rattle.instrument.specs.Layout.{node_of}
 use Rattle.instrument.specs.ByKind.{kind_has}
 use Rattle.instrument.specs.Described.{Describes}
 use Rattle.mark_rules.specs.declared.Mark.{Mark}
-use Rattle.meaning.specs.StepWords.{step_table}
+use Rattle.instrument.specs.declared.component.Component.{Component}
+use Rattle.instrument.specs.Component.{reading_table}
+use Rattle.instrument.specs.Table.{table_of}
 use Rattle.marks.specs.Formulas.{formula_mark, Sees}
 use Rattle.marks.specs.Written.{Written}
 use Rattle.mark_rules.specs.Rules.{true_mark, not_mark, or_mark, ex_mark, eg_mark, eu_mark}
@@ -33,15 +35,15 @@ no_mark = record { pass = 0; fail = 0 }
 unfoldable pub signal_mark : ℕ → List ℕ → List ℕ → ℕ → Mark
 signal_mark states outputs outs w = let t = from_words states [] outputs outs [] in formula_mark t (atoms t.out t) (atom (on_signal w))
 
--- the rules of the constructors, on a component of so many states and inputs with these lists
-module _ (states inputs : ℕ) (outputs outs succ : List ℕ) where
+-- the rules of the constructors, on a component
+module _ (r : Component) where
   abbrev atom_mark : Atom → Mark
-  atom_mark (on_signal w) = signal_mark states outputs outs w
+  atom_mark (on_signal w) = signal_mark r.table.states r.outputs.now r.outs.now w
 
   abbrev pub mark_rules : Rules Atom Mark
   mark_rules =
-      let t = step_table states inputs succ in
-      record { top = true_mark states; atom = atom_mark; neg = not_mark; or = or_mark; ex = ex_mark t; eg = eg_mark t; eu = eu_mark t }
+      let t = table_of r.table in
+      record { top = true_mark r.table.states; atom = atom_mark; neg = not_mark; or = or_mark; ex = ex_mark t; eg = eg_mark t; eu = eu_mark t }
 
   -- the marks of a node, from the marks of its operands; no known kind, no mark
   abbrev pub rule_mark : Node → Mark → Mark → Mark
@@ -62,19 +64,19 @@ pub record Listing (nodes : List Node) (count : ℕ) (ns : List (formula.Node At
 unfoldable pub list_marks : Table → View Atom → List (formula.Node Atom) → List Mark
 list_marks t κ ns = sets (replicate limits.nodes no_mark) 0 (list_below (length ns) (λ k. formula_mark t κ (formula_at ns k)))
 
--- The marks of a component for all nodes, whichever formula the array lists and in whatever view sees the component's signals; inputs are
+-- The marks of a component for all nodes, whichever formula the list has and in whatever view sees the component's signals; inputs are
 -- counted, and may be any that many.
-abbrev pub MarkedNodes : ℕ → ℕ → List ℕ → List ℕ → List ℕ → List Node → ℕ → List Mark → Type 0
-MarkedNodes states inputs outputs outs succ nodes count m =
-    (ins : List ℕ) → length ins ≡ inputs → let t = from_words states ins outputs outs succ in
-    (κ : View Atom) → Sees t κ → (ns : List (formula.Node Atom)) → Listing nodes count ns → m ≡ list_marks t κ ns
+abbrev pub MarkedNodes : Component → List Node → List Mark → Type 0
+MarkedNodes r nodes m =
+    (ins : List ℕ) → length ins ≡ r.table.inputs → let t = reading_table r ins in
+    (κ : View Atom) → Sees t κ → (ns : List (formula.Node Atom)) → Listing nodes (length nodes) ns → m ≡ list_marks t κ ns
 
 -- how far a loop over the nodes is: the first k are marked
-pub record Marking (states inputs : ℕ) (outputs outs succ : List ℕ) (nodes : List Node) (count k : ℕ) (m : List Mark) : Type 0 where
-  pub reached : k ≤ count
-  pub each : (ins : List ℕ) → length ins ≡ inputs → let t = from_words states ins outputs outs succ in
-      (κ : View Atom) → Sees t κ → (ns : List (formula.Node Atom)) → Listing nodes count ns
-      → Written (replicate limits.nodes no_mark) 0 count (λ k. formula_mark t κ (formula_at ns k) ∷ []) k m
+pub record Marking (r : Component) (nodes : List Node) (k : ℕ) (m : List Mark) : Type 0 where
+  pub reached : k ≤ length nodes
+  pub each : (ins : List ℕ) → length ins ≡ r.table.inputs → let t = reading_table r ins in
+      (κ : View Atom) → Sees t κ → (ns : List (formula.Node Atom)) → Listing nodes (length nodes) ns
+      → Written (replicate limits.nodes no_mark) 0 (length nodes) (λ k. formula_mark t κ (formula_at ns k) ∷ []) k m
 
 -- the marks of all components, no mark past the last one
 unfoldable pub marks_of : meaning.Instrument → List (List Mark)

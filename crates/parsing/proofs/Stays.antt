@@ -6,9 +6,8 @@ use lib.Dec.{T, eqb→eq}
 use lib.ListN.{length, set}
 use lib.Pow.{pow_pos}
 use lib.Seq.{sets}
-use native.Mathlib.Nat.{div-lt_iff_lt-mul}
 use native.Mathlib.Omega.{arith}
-use Prim.Native.Nat.{ℕ, zero, suc, ◌+◌, ◌*◌, ◌/◌, ◌^◌, ◌<◌, ◌≤◌}
+use Prim.Native.Nat.{ℕ, zero, suc, ◌+◌, ◌/◌, ◌^◌}
 use Rattle.words.specs.Sets.{empty, insert}
 use Rattle.words.proofs.Members.{insert_top}
 use Rattle.meaning.specs.File.Grammar.{filled_set, filled_from}
@@ -33,13 +32,9 @@ filled_more i p (u ∷ vs) v =
     let e : suc p + length vs ≡ p + suc (length vs) = omega arith in
     ap (λ l. filled_set (p / 2 ^ i) u ∷ l) (filled_more i (suc p) vs v ∙ ap (λ q. filled_from i (suc p) vs ++ (filled_set (q / 2 ^ i) v ∷ [])) e)
 
-pub store_filled : (i : ℕ) (out out₀ : List ℕ) (base p : ℕ) (l : List ℕ) (v w : ℕ) → w ≡ filled_set (p / 2 ^ i) v → length l ≡ p
-    → out ≡ sets out₀ base (filled_from i 0 l) → set out (base + p) w ≡ sets out₀ base (filled_from i 0 (l ++ (v ∷ [])))
-store_filled i out out₀ base p l v w e n h =
+pub store_filled : (i : ℕ) (out out₀ : List ℕ) (p : ℕ) (l : List ℕ) (v w : ℕ) → w ≡ filled_set (p / 2 ^ i) v → length l ≡ p
+    → out ≡ sets out₀ 0 (filled_from i 0 l) → set out p w ≡ sets out₀ 0 (filled_from i 0 (l ++ (v ∷ [])))
+store_filled i out out₀ p l v w e n h =
     let q : p ≡ 0 + length l = omega arith in
-    store_more out out₀ base p (filled_from i 0 l) w (filled_length i 0 l ∙ n) h
-    ∙ ap (sets out₀ base) (ap (λ w. filled_from i 0 l ++ (w ∷ [])) (e ∙ ap (λ (p : ℕ). filled_set (p / 2 ^ i) v) q) ∙ sym (filled_more i 0 l v))
-
--- the state of a place
-pub state_below : (i s p count : ℕ) → p < count → count ≤ s * 2 ^ i → p / 2 ^ i < s
-state_below i s p count l h = (div-lt_iff_lt-mul (pow_pos i)).1 (omega arith)
+    store_more out out₀ p (filled_from i 0 l) w (filled_length i 0 l ∙ n) h
+    ∙ ap (sets out₀ 0) (ap (λ w. filled_from i 0 l ++ (w ∷ [])) (e ∙ ap (λ (p : ℕ). filled_set (p / 2 ^ i) v) q) ∙ sym (filled_more i 0 l v))

@@ -10,9 +10,11 @@ use Rattle.meaning.specs.File.Grammar.{with_all}
 use Rattle.meaning.proofs.File.Progress.{sets_more}
 
 -- the store of one turn
-pub store_more : {A : Type 0} (out out₀ : List A) (base i : ℕ) (l : List A) (v : A) → length l ≡ i → out ≡ sets out₀ base l
-    → set out (base + i) v ≡ sets out₀ base (l ++ (v ∷ []))
-store_more out out₀ base i l v n h = rw (h, sym n) (sets_more out₀ base l v)
+pub store_more : {A : Type 0} (out out₀ : List A) (i : ℕ) (l : List A) (v : A) → length l ≡ i → out ≡ sets out₀ 0 l
+    → set out i v ≡ sets out₀ 0 (l ++ (v ∷ []))
+store_more out out₀ i l v n h =
+    let e : i ≡ 0 + length l = omega arith in
+    rw (h, e) (sets_more out₀ 0 l v)
 
 -- the set of the signals read so far
 pub with_none : (set : ℕ) → set ≡ with_all set []
@@ -27,6 +29,4 @@ with_more set (a ∷ vs) v = with_more (insert set a) vs v
 -- one number or node more, after those of a list from the front on
 pub sets_map : {A B : Type 0} (f : A → B) (l : List B) (xs : List A) (x : A)
     → set (sets l 0 (map f xs)) (length xs) (f x) ≡ sets l 0 (map f (xs ++ (x ∷ [])))
-sets_map f l xs x =
-    let e : length xs ≡ 0 + length (map f xs) = omega (arith, length-map xs f) in
-    ap (λ (i : ℕ). set (sets l 0 (map f xs)) i (f x)) e ∙ sets_more l 0 (map f xs) (f x) ∙ ap (sets l 0) (sym (map-append f xs (x ∷ [])))
+sets_map f l xs x = store_more _ l (length xs) (map f xs) (f x) (length-map xs f) refl ∙ ap (sets l 0) (sym (map-append f xs (x ∷ [])))

@@ -1,4 +1,4 @@
--- A list of the grammar is one thing more so many times.
+-- One thing more so many times, and a list of the grammar read so.
 use mathlib.Core.Path.{◌≡◌, refl, sym, ap, ◌∙◌}
 use mathlib.Core.List.{List, [], ◌∷◌, ◌++◌, append_assoc, append-nil}
 use Prim.Native.Nat.{ℕ, zero, suc}
@@ -6,8 +6,22 @@ use Rattle.meaning.specs.Atoms.{Atom, Set}
 use Rattle.meaning.specs.Nodes.{Node}
 use Rattle.meaning.specs.File.Parser.{Got, found, fault, Parser, on, list_of}
 use Rattle.meaning.specs.File.Grammar.{Component, Contents}
-use Rattle.meaning.proofs.File.Lists.{list_none, list_more}
+use Rattle.meaning.proofs.File.Lists.{on_assoc, list_none, list_more}
 use Rattle.parsing.specs.Stages.{mapped, Stage, times}
+use Rattle.parsing.proofs.Parsers.{on_each}
+
+-- so many things more, and one
+pub times_more : {A : Type 0} (file : List ℕ) (stage : A → Parser A) (n : ℕ) (k : A) (at : ℕ)
+    → on (times n stage k file at) (λ m at. stage m file at) ≡ times (suc n) stage k file at
+times_more {A = A} file stage zero k at = right (stage k file at)
+  where
+    right : (g : Got A) → g ≡ on g (λ k at. found k at)
+    right (found k at) = refl
+    right (fault r) = refl
+times_more file stage (suc n) k at =
+    on_assoc (stage k file at) (λ m at. times n stage m file at) (λ m at. stage m file at)
+    ∙ on_each (stage k file at) (λ m at. on (times n stage m file at) (λ m at. stage m file at)) (λ m at. times (suc n) stage m file at)
+    (λ m at e. times_more file stage n m at)
 
 abbrev pub contents : List Set → ℕ → List Component → List (Node Atom) → List (List ℕ) → Contents
 contents ds W cs ns ss = record { signals = W; components = cs; nodes = ns; starts = ss; sets = ds }

@@ -1,5 +1,5 @@
 -- The class names of one component are those of its relation at the roots.
-use mathlib.Core.Path.{◌≡◌, refl, sym, ap₂, ◌∙◌}
+use mathlib.Core.Path.{◌≡◌, refl, ap, ap₂}
 use mathlib.Core.Bool.{Bool, cond}
 use mathlib.Core.List.{List}
 use native.Mathlib.Omega.{arith}
@@ -16,22 +16,19 @@ use Rattle.meaning.specs.File.Grammar.{Contents, instrument_of, limits, most_sta
 use Rattle.meaning.specs.Reference.Tests.{lowest}
 use Rattle.meaning.proofs.Basic.Bounded.{any_same}
 use Rattle.meaning.proofs.File.Accepted.{accepted}
-use Rattle.instrument.specs.declared.Node as stored
-use Rattle.instrument.specs.declared.Instrument.{Instrument}
-use Rattle.instrument.specs.Described.{Describes}
-use Rattle.instrument.specs.Lent.{Lent}
-use Rattle.instrument.proofs.Tables.{table_states}
-use Rattle.marks.proofs.Parts.{lent_here}
+use Rattle.instrument.specs.declared.Node.{Node}
+use Rattle.instrument.specs.declared.component.Component.{Component}
+use Rattle.instrument.proofs.Components.{component_table}
+use Rattle.mark_rules.specs.declared.Mark.{Mark}
 use Rattle.classes.specs.Rows.{rel, rows}
 use Rattle.class_names.specs.Names.{Inhabited, class_names_of}
 use Rattle.classes.proofs.Padded.{padded_same}
 use Rattle.classes.proofs.Rows.{rel_rows_lem}
 use Rattle.class_names.proofs.Meaning.{inhabited}
 use Rattle.meaning.proofs.Roots.{at_equivalence}
-use Rattle.relations.specs.Relations.{roots_relation}
+use Rattle.relations.specs.Relations.{MarkedComponent, roots_relation}
 use Rattle.relations.proofs.Meaning.{relation_decides}
 use Rattle.partitions.specs.Classes.{table_classes, component_classes}
-use Rattle.partitions.proofs.Classes.{few_states}
 
 -- tests that agree below n have the same lowest number
 lowest_same : (n : ℕ) (f g : ℕ → Bool) → ((i : ℕ) → i < n → f i ≡ g i) → lowest n f ≡ lowest n g
@@ -50,34 +47,25 @@ root_names t κ ρs m =
     related : ℕ → ℕ → Bool
     related = rel_all_b t κ ρs
 
-module _
-    {t : Instrument}
-    {k : Contents}
-    {c : ℕ}
-    {nexts outs outputs : List ℕ}
-    {states inputs many : ℕ}
-    {nodes : List stored.Node}
-    {count : ℕ}
-    (d : Describes t k)
-    (l : Lent t c nexts outs outputs states inputs many nodes count)
-  where
-    abbrev I : meaning.Instrument
-    I = instrument_of k
+module _ {r : Component} {nodes : List Node} {marks : List Mark} {read : ℕ} {k : Contents} {c : ℕ} (m : MarkedComponent r nodes marks read k c) where
+  abbrev I : meaning.Instrument
+  I = instrument_of k
 
-    small : (table I c).states ≤ most_states
-    small = few_states t k d c (lent_here d l)
+  -- the states of the component are those of its table in the instrument
+  states_is : r.table.states ≡ (table I c).states
+  states_is = ap (λ t. t.states) (component_table k c r m.is)
 
-    states_is : states ≡ (table I c).states
-    states_is = l.states_are ∙ sym (table_states t k d c)
+  small : (table I c).states ≤ most_states
+  small = rw (← states_is) r.table.steps.most_states_lem
 
-    -- each state is related to a state, itself
-    pub root_inhabited : (roots r : List ℕ) → r ≡ roots_relation I c roots → Inhabited states r
-    root_inhabited roots r e =
-        rw (e, states_is)
-        (inhabited (table I c) small (roots_relation I c roots) (at_equivalence I good roots c (lent_here d l)) (relation_decides I good roots c (lent_here d l) small))
-      where
-        good : Accepted I
-        good = accepted limits k d.promised
+  -- each state is related to a state, itself
+  pub root_inhabited : (roots rows : List ℕ) → rows ≡ roots_relation I c roots → Inhabited r.table.states rows
+  root_inhabited roots rows e =
+      rw (e, states_is)
+      (inhabited (table I c) small (roots_relation I c roots) (at_equivalence I good roots c m.here) (relation_decides I good roots c m.here small))
+    where
+      good : Accepted I
+      good = accepted limits k m.promised
 
-    pub root_classes_lem : (roots r : List ℕ) → r ≡ roots_relation I c roots → class_names_of r states ≡ component_classes I roots c
-    root_classes_lem roots r e = rw (e, states_is) (root_names (table I c) (view_of I c) (root_formulas I roots) small)
+  pub root_classes_lem : (roots rows : List ℕ) → rows ≡ roots_relation I c roots → class_names_of rows r.table.states ≡ component_classes I roots c
+  root_classes_lem roots rows e = rw (e, states_is) (root_names (table I c) (view_of I c) (root_formulas I roots) small)

@@ -1,8 +1,8 @@
 -- Names written one component after the other: the loop over the components, the room it needs, and its end as document 01's result.
-use mathlib.Core.Path.{◌≡◌, refl, ap, ◌∙◌}
-use mathlib.Core.List.{List, [], ◌∷◌}
-use lib.ListN.{length, get_or, set, length-append}
-use lib.Seq.{sets}
+use mathlib.Core.Path.{◌≡◌, refl, sym, ◌∙◌}
+use mathlib.Core.List.{List, []}
+use lib.ListN.{length, get_or, take, length-append}
+use lib.Seq.{sets, ext_get_or, get_or-take, length-take-le}
 use native.Mathlib.Decide.{dec_lt}
 use native.Mathlib.Numerals.{add-one}
 use native.Mathlib.Omega.{arith}
@@ -12,13 +12,12 @@ use Rattle.meaning.specs.File.Grammar.{Contents, instrument_of}
 use Rattle.meaning.specs.Reference.Answers.{list_below, join_below}
 use Rattle.meaning.specs.Roots.{classes_at_roots, roots_class_names}
 use Rattle.answers.specs.Buffers.{entries, lent_after}
-use Rattle.meaning.proofs.Basic.Entries.{list_length, list_same, join_same}
+use Rattle.meaning.proofs.Basic.Entries.{list_length, list_at, list_same, join_same}
 use Rattle.answers.proofs.Buffers.{lent_sets}
 use Rattle.instrument.specs.declared.Instrument as stored
 use Rattle.instrument.specs.Described.{Describes}
 use Rattle.instrument.proofs.Tables.{table_count, table_states}
-use Rattle.marks.specs.Written.{Written}
-use Rattle.marks.proofs.Written.{written_start, written_more, written_end, join_list}
+use Rattle.marks.proofs.Written.{written_start, written_more, written_end}
 use Rattle.partitions.specs.Classes.{classes_of, sum_below, state_sum}
 use Rattle.partitions.specs.Progress.{names_in, Writing}
 use Rattle.partitions.proofs.Classes.{sum_length, described_name, names_length}
@@ -32,17 +31,11 @@ sum_more (suc n) i f l =
       | no h ↦ let e : i ≡ n = omega arith in rw e (omega arith)
     ]
 
--- one name more of a component's row
-pub name_more : (row : List ℕ) (states at x : ℕ) (out₀ out : List ℕ) → x < states → Written out₀ at states (λ x. get_or row x 0 ∷ []) x out
-    → Written out₀ at states (λ x. get_or row x 0 ∷ []) (x + 1) (set out (at + x) (get_or row x 0))
-name_more row states at x out₀ out l w =
-    written_more out₀ at states (λ x. get_or row x 0 ∷ []) x (at + x) out (set out (at + x) (get_or row x 0)) l
-    (omega (arith, ap length (join_list (λ x. get_or row x 0) x), list_length x (λ x. get_or row x 0))) refl w
-
-pub name_end : (row : List ℕ) (states at x : ℕ) (out₀ out : List ℕ) → states ≡ x → Written out₀ at states (λ x. get_or row x 0 ∷ []) x out
-    → out ≡ sets out₀ at (names_in row states)
-name_end row states at x out₀ out e w =
-    written_end out₀ at states (λ x. get_or row x 0 ∷ []) x out e w ∙ ap (λ vs. sets out₀ at vs) (join_list (λ x. get_or row x 0) states)
+-- the first names of a component's row
+pub names_taken : (row : List ℕ) (states : ℕ) → states ≤ length row → take states row ≡ names_in row states
+names_taken row states h =
+    ext_get_or 0 (take states row) (names_in row states) (length-take-le states row h ∙ sym (list_length states (λ x. get_or row x 0)))
+    (λ x l. let b : x < states = omega (arith, l, length-take-le states row h) in get_or-take states row x 0 b ∙ sym (list_at states (λ x. get_or row x 0) 0 x b))
 
 module _ (n : ℕ) (states : List ℕ) (names : List (List ℕ)) (out₀ : List ℕ) where
   abbrev part : ℕ → List ℕ

@@ -1,7 +1,7 @@
 -- The classes of all components: the loop over them.
 use mathlib.Core.Path.{◌≡◌, sym, ap, ◌∙◌}
 use mathlib.Core.List.{List, [], ◌∷◌}
-use lib.ListN.{get_or, set, replicate, length-replicate}
+use lib.ListN.{get_or, take, set, replicate, length-replicate}
 use lib.Seq.{sets}
 use native.Mathlib.Omega.{arith}
 use Prim.Native.Nat.{ℕ, ◌+◌, ◌≤◌, ◌<◌}
@@ -11,7 +11,12 @@ use Rattle.meaning.specs.File.Grammar.{Contents, instrument_of}
 use Rattle.meaning.specs.Seen.{view_of}
 use Rattle.meaning.specs.Reference.Answers.{list_below}
 use Rattle.instrument.specs.declared.Instrument.{Instrument}
-use Rattle.instrument.proofs.Bounds.{count_bounds}
+use Rattle.meaning.specs.File.Promise.{component_at}
+use Rattle.instrument.specs.declared.component.Component.{Component}
+use Rattle.instrument.specs.Component.{IsComponent}
+use Rattle.instrument.proofs.Bounds.{count_bounds, node_bounds}
+use Rattle.instrument.proofs.Places.{nodes_length}
+use Rattle.marks.proofs.Parts.{listing, listing_part}
 use Rattle.instrument.proofs.Tables.{table_count}
 use Rattle.mark_rules.specs.declared.Mark.{Mark}
 use Rattle.marks.specs.NodeMarks.{no_mark, Listing, list_marks, marks_of}
@@ -40,13 +45,16 @@ pub needed_of : {nodes : List Node} {count : ℕ} {k : Contents} {roots : Roots}
 needed_of l good e = record { good = rw (← l.long) good; under = e }
 
 module _ (t : Instrument) (marks : List (List Mark)) (read : ℕ) where
-  pub marked_row : (k : Contents) → MarkedInstrument t marks k → ReadSignals k read → (i : ℕ) → i < t.components
-      → MarkedComponent t i (get_or marks i []) read k
-  marked_row k m r i l =
+  pub marked_row : (k : Contents) → MarkedInstrument t marks k → ReadSignals k read → (i : ℕ) → i < t.components → (r : Component)
+      → IsComponent (component_at k i) r → MarkedComponent r (take t.nodecount t.nodes) (get_or marks i []) read k i
+  marked_row k m s i l r e =
       let d = m.describes in
       record {
-        describes = d;
-        signals = r;
+        promised = d.promised;
+        here = omega (arith, table_count t k d);
+        is = e;
+        listing = listing_part (omega (arith, (node_bounds t k d).1, nodes_length t k d)) (listing t k d);
+        signals = s;
         marked =
             ap (λ ms. get_or ms i []) m.marked
             ∙ marks_row (instrument_of k) (omega (arith, table_count t k d, (count_bounds t k d).1)) i (omega (arith, table_count t k d));
@@ -57,14 +65,14 @@ module _ (t : Instrument) (marks : List (List Mark)) (read : ℕ) (roots : List 
   naming_start = record { reached = omega arith; each = λ k m r. written_start (replicate 4 no_names) 0 t.components _ }
 
   pub naming_more : (i : ℕ) (names : List (List ℕ)) (row : List ℕ) → i < t.components
-      → ((k : Contents) → MarkedComponent t i (get_or marks i []) read k → row ≡ component_classes (instrument_of k) roots i)
+      → ((k : Contents) → MarkedInstrument t marks k → ReadSignals k read → row ≡ component_classes (instrument_of k) roots i)
       → Naming t marks read roots i names → Naming t marks read roots (i + 1) (set names i row)
   naming_more i names row h e s =
       record {
         reached = omega arith;
         each =
             λ k m r. singles_more (component_classes (instrument_of k) roots) (replicate 4 no_names) t.components i names row h
-            (e k (marked_row t marks read k m r i h)) (s.each k m r);
+            (e k m r) (s.each k m r);
       }
 
   pub naming_end : (i : ℕ) (names : List (List ℕ)) → t.components ≡ i → Naming t marks read roots i names → (k : Contents) → MarkedInstrument t marks k

@@ -3,7 +3,6 @@ use Rattle.std.specs.Prelude.{◌≡◌, List, [], ◌∷◌, length, get_or, re
 use Rattle.meaning.specs.File.Grammar.{Contents, instrument_of, limits, most_states}
 use Rattle.meaning.specs.Reference.Answers.{list_below, join_below}
 use Rattle.instrument.specs.declared.Instrument.{Instrument}
-use Rattle.instrument.specs.declared.Outline.{Outline}
 use Rattle.mark_rules.specs.declared.Mark.{Mark}
 use Rattle.marks.specs.Written.{Written}
 use Rattle.compared.specs.Compared.{ReadSignals}
@@ -25,7 +24,7 @@ pub record Writing (n : ℕ) (states : List ℕ) (names : List (List ℕ)) (out�
   pub next : place ≡ length (join_below i (λ i. names_in (get_or names i []) (get_or states i 0)))
 
 -- the states of the first i components are summed
-pub record Summing (t : Outline) (i sum : ℕ) : Type 0 where
+pub record Summing (t : Instrument) (i sum : ℕ) : Type 0 where
   pub reached : i ≤ t.components
   pub few : sum ≤ most_states * i
   pub sums : sum ≡ sum_below i (λ i. get_or t.states i 0)

@@ -15,19 +15,15 @@ use Rattle.cursor.specs.declared.Refusal.{Refusal}
 use Rattle.answers.specs.Outcomes.{outcome_count, given, Judgement, bytes_of, component_bytes_of}
 use Rattle.answers.specs.Means.{HasComponent, StretchMeans}
 use Rattle.answers.proofs.Parts.{has_component, own_part}
-use Rattle.parsing.specs.declared.Outcome as told
-use Rattle.parsing.specs.declared.Outcome.TheVariants as outcomes
+use Rattle.std.specs.Prelude.{Result, Ok, Err}
+use Rattle.std.specs.declared.ops.Range.{Range}
+use Rattle.judgement.specs.declared.Judgement as code
+use Rattle.judgement.specs.Judged as judged
 use Rattle.reader.specs.Outcomes.{fault_number, Tells}
-use Rattle.entry_queries.specs.declared.Written.{Written}
-use Rattle.entry_queries.specs.declared.Written.TheVariants as written
-use Rattle.value_queries.specs.declared.Looked.{Looked}
-use Rattle.value_queries.specs.declared.Looked.TheVariants as looked
-use Rattle.value_queries.specs.declared.Judged.{Judged}
-use Rattle.value_queries.specs.declared.Judged.TheVariants as judged
 use Rattle.entry_queries.specs.Written.{Answered, written_number, written_count}
 use Rattle.value_queries.specs.Told.{looked_reply, judged_reply}
 use Rattle.entry_queries.proofs.Answering.{number_some}
-use Rattle.pinthar.specs.Numbers.{Returned, outcome_code, written_code, lookup_code, truth_code, judgement_code, verdict_code}
+use Rattle.pinthar.specs.Numbers.{Returned, outcome_code, coded, written_code, lookup_code, truth_code, told_code, judgement_code, verdict_code}
 use Rattle.pinthar.specs.Numbers.{component_code, place_in, size_in}
 
 -- a refusal's code is not small
@@ -35,13 +31,13 @@ refusal_large : {X : Type 0} (c : Refusal) → number c * 2 ^ 32 < 2 ^ 32 → X
 refusal_large c l = absurd (number_some c (omega (arith, l)))
 
 -- a written answer has the code of its outcome
-same_code : (o : Outcome) (w : Written) → written_number w ≡ outcome_number o → written_count w ≡ outcome_count o → written_code w ≡ outcome_code o
-same_code (refused r) (written.Refused c) n k = ap (λ x. x * 2 ^ 32) n
-same_code (refused r) (written.Entries m) n k = omega (arith, n, k)
-same_code (entries vs) (written.Refused c) n k = absurd (number_some c n)
-same_code (entries vs) (written.Entries m) n k = k
+same_code : (o : Outcome) (w : Result ℕ Refusal) → written_number w ≡ outcome_number o → written_count w ≡ outcome_count o → written_code w ≡ outcome_code o
+same_code (refused r) (Err c) n k = ap (λ x. x * 2 ^ 32) n
+same_code (refused r) (Ok m) n k = omega (arith, n, k)
+same_code (entries vs) (Err c) n k = absurd (number_some c n)
+same_code (entries vs) (Ok m) n k = k
 
-module _ {o : Outcome} {w : Written} {r : ℕ} {old new : List ℕ} where
+module _ {o : Outcome} {w : Result ℕ Refusal} {r : ℕ} {old new : List ℕ} where
   pub returned : Answered o w old new → r ≡ written_code w → Returned o r old new
   returned a e = record { code = e ∙ same_code o w a.number a.count; buffer = a.buffer }
 
@@ -49,18 +45,27 @@ module _ {o : Outcome} {w : Written} {r : ℕ} {old new : List ℕ} where
   pub both : {X : Type 0} → Answered o w old new → (written_number w ≡ 0 → X) → r ≡ written_code w → Returned o r old new × (r < 2 ^ 32 → X)
   both a m e = (returned a e, λ l. m (accepted w (omega (arith, e, l))))
     where
-      accepted : (w : Written) → written_code w < 2 ^ 32 → written_number w ≡ 0
-      accepted (written.Refused c) l = refusal_large c l
-      accepted (written.Entries m) l = refl
+      accepted : (w : Result ℕ Refusal) → written_code w < 2 ^ 32 → written_number w ≡ 0
+      accepted (Err c) l = refusal_large c l
+      accepted (Ok m) l = refl
+
+-- a value's code is that of its reply
+pub looked_code : (l : Result Bool Refusal) → coded truth_code l ≡ lookup_code (looked_reply l)
+looked_code (Ok b) = refl
+looked_code (Err c) = refl
+
+pub judged_code : (a : Result code.Judgement Refusal) → coded (λ j. told_code (judged.judgement_of j)) a ≡ verdict_code (judged_reply a)
+judged_code (Ok j) = refl
+judged_code (Err c) = refl
 
 -- the lookup's code gives the truth
-pub looked_same : (l : Looked) (b : Bool) → lookup_code (looked_reply l) ≡ truth_code b → looked_reply l ≡ given b
-looked_same (looked.Root true) true e = refl
-looked_same (looked.Root false) false e = refl
-looked_same (looked.Root true) false e = absurd (omega (arith, e))
-looked_same (looked.Root false) true e = absurd (omega (arith, e))
-looked_same (looked.Refused c) true e = refusal_large c (omega (arith, e))
-looked_same (looked.Refused c) false e = refusal_large c (omega (arith, e))
+pub looked_same : (l : Result Bool Refusal) (b : Bool) → lookup_code (looked_reply l) ≡ truth_code b → looked_reply l ≡ given b
+looked_same (Ok true) true e = refl
+looked_same (Ok false) false e = refl
+looked_same (Ok true) false e = absurd (omega (arith, e))
+looked_same (Ok false) true e = absurd (omega (arith, e))
+looked_same (Err c) true e = refusal_large c (omega (arith, e))
+looked_same (Err c) false e = refusal_large c (omega (arith, e))
 
 -- the verdict's code gives the verdict and its stage
 abbrev judgement_of : ℕ → Judgement
@@ -85,10 +90,9 @@ same_judgement : (i j : Judgement) → verdict_code (given i) ≡ verdict_code (
 same_judgement i j e =
     ap given (sym (of_code i.verdict i.stage) ∙ (ap judgement_of e ∙ of_code j.verdict j.stage))
 
-pub judged_same : (a : Judged) (j : Judgement) → verdict_code (judged_reply a) ≡ verdict_code (given j) → judged_reply a ≡ given j
-judged_same (judged.Marks h) j e = same_judgement _ j e
-judged_same (judged.Merged h) j e = same_judgement _ j e
-judged_same (judged.Refused c) j e = refusal_large c (omega (arith, e, small_code j.verdict j.stage))
+pub judged_same : (a : Result code.Judgement Refusal) (j : Judgement) → verdict_code (judged_reply a) ≡ verdict_code (given j) → judged_reply a ≡ given j
+judged_same (Ok h) j e = same_judgement _ j e
+judged_same (Err c) j e = refusal_large c (omega (arith, e, small_code j.verdict j.stage))
 
 -- a component's part: the code of an answer, and of a refusal
 pub code_answered : (g : Got Stretch) → 0 ≡ fault_number g → start_of g * 2 ^ 16 + (end_of g - start_of g) ≡ component_code g
@@ -120,19 +124,19 @@ component_taken file c r e =
     ap (λ r. take (size_in r) (drop (place_in r) file)) e ∙ ap₂ (λ n at. take n (drop at file)) p.size p.place
 
 -- a result below 2 ^ 32 is an answer, and there is one where the file has the component
-pub component_both : (file : List ℕ) (c r : ℕ) (o : told.Outcome) → Tells o (located file c) → r ≡ component_code (located file c)
+pub component_both : (file : List ℕ) (c r : ℕ) (o : Result (Range ℕ) Refusal) → Tells o (located file c) → r ≡ component_code (located file c)
     → (r < 2 ^ 32 → StretchMeans file c (take (size_in r) (drop (place_in r) file))) × (HasComponent file c → r < 2 ^ 32)
 component_both file c r o h e = go o (located file c) refl h
   where
-    go : (o : told.Outcome) (g : Got Stretch) → located file c ≡ g → Tells o g
+    go : (o : Result (Range ℕ) Refusal) (g : Got Stretch) → located file c ≡ g → Tells o g
         → (r < 2 ^ 32 → StretchMeans file c (take (size_in r) (drop (place_in r) file))) × (HasComponent file c → r < 2 ^ 32)
-    go outcomes.Accepted (found s at) q t = (
+    go (Ok p) (found s at) q t = (
       λ l. subst (StretchMeans file c) (sym (component_taken file c r e)) (own_part file c (has_component file c s at q)),
       λ h. omega (arith, e ∙ ap component_code q, sym (ap end_of q), short file c, (inside file c).0, sym (ap start_of q)),
     )
-    go outcomes.Accepted (fault n) q t = absurd t
-    go (outcomes.Refused cause) (found s at) q t = absurd t
-    go (outcomes.Refused cause) (fault n) q t = (
+    go (Ok p) (fault n) q t = absurd t
+    go (Err cause) (found s at) q t = absurd t
+    go (Err cause) (fault n) q t = (
       λ l. refusal_large cause (omega (arith, e ∙ ap component_code q, t, l)),
       λ h. absurd ((own_part file c h).some (ap (bytes_of file) q)),
     )

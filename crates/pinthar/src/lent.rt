@@ -15,7 +15,7 @@ pub extern "C" fn pinthar_full_words(file: &[u8], out: &mut [u32]) -> u64
     ensures answer { Returned (full_outcome file.now (length out.old)) result out.old out.new }
     ensures meaning { result < 2 ^ 32 → Holds (FullMeans out.new) file.now }
 {
-    numbers::of_written(queries::full_words(file, out))
+    numbers::of_answer(queries::full_words(file, out))
 }
 
 // Marks: two words for every component and node, PASS then FAIL, components outermost.
@@ -24,7 +24,7 @@ pub extern "C" fn pinthar_mark_words(file: &[u8], out: &mut [StateSet]) -> u64
     ensures answer { Returned (mark_outcome file.now (length out.old)) result out.old out.new }
     ensures meaning { result < 2 ^ 32 → Holds (MarksMean out.new) file.now }
 {
-    numbers::of_written(queries::mark_words(file, out))
+    numbers::of_answer(queries::mark_words(file, out))
 }
 
 // Classes: the name of every state's class, one byte per state, components in order.
@@ -33,7 +33,7 @@ pub extern "C" fn pinthar_class_names(file: &[u8], out: &mut [u8]) -> u64
     ensures answer { Returned (class_outcome file.now (length out.old)) result out.old out.new }
     ensures meaning { result < 2 ^ 32 → Holds (ClassesMean out.new) file.now }
 {
-    numbers::of_written(queries::class_names(file, out))
+    numbers::of_answer(queries::class_names(file, out))
 }
 
 // Merged words: a word per merged state, bit k the truth of node k if that is the root or stands under it.
@@ -42,7 +42,7 @@ pub extern "C" fn pinthar_merged_words(file: &[u8], out: &mut [u32]) -> u64
     ensures answer { Returned (merged_outcome file.now (length out.old)) result out.old out.new }
     ensures meaning { result < 2 ^ 32 → Holds (MergedMeans out.new) file.now }
 {
-    numbers::of_written(queries::merged_words(file, out))
+    numbers::of_answer(queries::merged_words(file, out))
 }
 
 // The listing: the verdict's line, a line of class names for each component, the sizes, each ending with byte 10.
@@ -50,5 +50,5 @@ pub extern "C" fn pinthar_merged_words(file: &[u8], out: &mut [u32]) -> u64
 pub extern "C" fn pinthar_listing(file: &[u8], out: &mut [u8]) -> u64
     ensures answer { Returned (listing_outcome file.now (length out.old)) result out.old out.new }
 {
-    numbers::of_written(queries::listing(file, out))
+    numbers::of_answer(queries::listing(file, out))
 }

@@ -1,11 +1,49 @@
 // Answers as numbers.
-ghost use Rattle.std.specs.Prelude.{◌≡◌, ◌*◌, ◌^◌};
+ghost use Rattle.std.specs.Prelude.{◌≡◌, ℕ, ◌*◌, ◌^◌};
 ghost use Rattle.cursor.specs.Answers.{number};
-ghost use Rattle.value_queries.specs.Told.{looked_reply, judged_reply};
-ghost use Rattle.pinthar.specs.Numbers.{written_code, lookup_code, verdict_code};
+ghost use Rattle.judgement.specs.Judged.{judgement_of};
+ghost use Rattle.pinthar.specs.Numbers.{coded, truth_code, told_code};
 
 use cursor::Refusal;
-use queries::{Judged, Looked, Written};
+use judgement::{Judgement, Stage};
+
+// An answer that a number below 2^32 stands for.
+pub trait Answer: Copy {
+    ghost code: { Self → ℕ };
+
+    fn code(self) -> u64
+        ensures { result ≡ code self };
+}
+
+// How many entries were written.
+impl Answer for usize {
+    ghost code = { λ n. n };
+
+    fn code(self) -> u64 {
+        self as u64
+    }
+}
+
+// The root's truth.
+impl Answer for bool {
+    ghost code = { truth_code };
+
+    fn code(self) -> u64 {
+        u64::from(self)
+    }
+}
+
+// The verdict and its stage.
+impl Answer for Judgement {
+    ghost code = { λ j. told_code (judgement_of j) };
+
+    fn code(self) -> u64 {
+        match self.stage {
+            Stage::Marks => u64::from(self.holds),
+            Stage::Merged => u64::from(self.holds) + 2,
+        }
+    }
+}
 
 // A refusal.
 pub fn of_refusal(cause: Refusal) -> u64
@@ -14,33 +52,12 @@ pub fn of_refusal(cause: Refusal) -> u64
     cause.number() as u64 * 4294967296
 }
 
-// How many entries were written.
-pub fn of_written(w: Written) -> u64
-    ensures { result ≡ written_code w }
+// An answer, or the refusal.
+pub fn of_answer<A: Answer>(answered: Result<A, Refusal>) -> u64
+    ensures { result ≡ coded A.code answered }
 {
-    match w {
-        Written::Entries(n) => n as u64,
-        Written::Refused(cause) => of_refusal(cause),
-    }
-}
-
-// The root's truth.
-pub fn of_looked(l: Looked) -> u64
-    ensures { result ≡ lookup_code (looked_reply l) }
-{
-    match l {
-        Looked::Root(b) => b as u64,
-        Looked::Refused(cause) => of_refusal(cause),
-    }
-}
-
-// The verdict and its stage.
-pub fn of_judged(j: Judged) -> u64
-    ensures { result ≡ verdict_code (judged_reply j) }
-{
-    match j {
-        Judged::Marks(holds) => holds as u64,
-        Judged::Merged(holds) => holds as u64 + 2,
-        Judged::Refused(cause) => of_refusal(cause),
+    match answered {
+        Ok(answer) => answer.code(),
+        Err(cause) => of_refusal(cause),
     }
 }

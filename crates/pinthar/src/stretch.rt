@@ -6,7 +6,6 @@ ghost use Rattle.answers.specs.Means.{HasComponent, StretchMeans};
 ghost use Rattle.pinthar.specs.Numbers.{component_code, place_in, size_in};
 
 use crate::numbers;
-use reader::Outcome;
 
 // Where the component's part of the file begins, times 2^16, and how many bytes it has: from its state count to its last successor set.
 #[unsafe(no_mangle)]
@@ -16,14 +15,8 @@ pub extern "C" fn pinthar_component(file: &[u8], component: u32) -> u64
     ensures meaning { result < 2 ^ 32 → StretchMeans file.now component (take (size_in result) (drop (place_in result) file.now)) }
     ensures answered { HasComponent file.now component → result < 2 ^ 32 }
 {
-    let place = reader::locate(file, component);
-    let outcome = place.outcome;
-    match outcome {
-        Outcome::Accepted => {
-            let start = place.start;
-            let size = place.end - start;
-            start as u64 * 65536 + size as u64
-        }
-        Outcome::Refused(cause) => numbers::of_refusal(cause),
+    match reader::locate(file, component) {
+        Ok(place) => place.start as u64 * 65536 + (place.end - place.start) as u64,
+        Err(cause) => numbers::of_refusal(cause),
     }
 }

@@ -12,7 +12,7 @@ pub extern "C" fn pinthar_lookup(file: &[u8], s0: u32, s1: u32, s2: u32, s3: u32
     ensures answer { result ≡ lookup_code (lookup_reply file.now (s0 ∷ s1 ∷ s2 ∷ s3 ∷ [])) }
     ensures meaning { (b : Bool) → result ≡ lookup_code (given b) → Holds (LookupMeans (s0 ∷ s1 ∷ s2 ∷ s3 ∷ []) b) file.now }
 {
-    numbers::of_looked(queries::lookup(file, s0, s1, s2, s3))
+    numbers::of_answer(queries::lookup(file, s0, s1, s2, s3))
 }
 
 // The verdict on the file's starts, with the stage that gives it.
@@ -21,5 +21,5 @@ pub extern "C" fn pinthar_verdict(file: &[u8]) -> u64
     ensures answer { result ≡ verdict_code (verdict_reply file.now) }
     ensures meaning { (j : Judgement) → result ≡ verdict_code (given j) → Holds (VerdictMeans j) file.now }
 {
-    numbers::of_judged(queries::verdict(file))
+    numbers::of_answer(queries::verdict(file))
 }

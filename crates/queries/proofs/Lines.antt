@@ -2,6 +2,7 @@
 use mathlib.Core.Path.{◌≡◌, refl, subst, ◌∙◌}
 use mathlib.Core.List.{List}
 use Prim.Native.Nat.{ℕ}
+use Rattle.std.specs.Prelude.{Result, Err}
 use Rattle.meaning.specs.Instrument.{Instrument, components, table}
 use Rattle.meaning.specs.Merged.{merged_count_of}
 use Rattle.meaning.specs.File.Grammar.{Contents, instrument_of}
@@ -16,15 +17,13 @@ use Rattle.root_words.proofs.LastNode.{root_named}
 use Rattle.report.specs.Report.{Listed}
 use Rattle.answers.specs.Outcomes.{Reply, denied, Judgement}
 use Rattle.answers.specs.Listing.{listed}
-use Rattle.entry_queries.specs.declared.Written.{Written}
-use Rattle.entry_queries.specs.declared.Written.TheVariants.{Refused}
 use Rattle.entry_queries.specs.Written.{Answered}
 
 -- the listing: refused as the verdict is, else its text
-pub listed_refused : (I : Instrument) (room : ℕ) (cause : Refusal) (old : List ℕ) → Answered (listed I room (denied (number cause))) (Refused cause) old old
+pub listed_refused : (I : Instrument) (room : ℕ) (cause : Refusal) (old : List ℕ) → Answered (listed I room (denied (number cause))) (Err cause) old old
 listed_refused I room cause old = record { number = refl; count = refl; buffer = refl }
 
-pub listed_same : (I : Instrument) (room : ℕ) {i j : Reply Judgement} {r : Written} {old new : List ℕ} → i ≡ j → Answered (listed I room i) r old new
+pub listed_same : (I : Instrument) (room : ℕ) {i j : Reply Judgement} {r : Result ℕ Refusal} {old new : List ℕ} → i ≡ j → Answered (listed I room i) r old new
     → Answered (listed I room j) r old new
 listed_same I room {i} {j} {r} {old} {new} e a = subst (λ j. Answered (listed I room j) r old new) e a
 

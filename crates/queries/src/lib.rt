@@ -6,13 +6,15 @@
 mod listed; // listed.rt: the listing
 
 // A component's own part of the file.
-pub use stretch_query::{Asked, component_bytes, component_refusal};
+pub use stretch_query::{component_bytes, component_refusal};
 
 // Entries in a lent buffer: full words, marks, class names, merged words.
-pub use entry_queries::{Written, class_names, full_words, mark_words, merged_words};
+pub use entry_queries::{class_names, full_words, mark_words, merged_words};
 
-// Values: the lookup and the verdict.
-pub use value_queries::{Judged, Looked, lookup, verdict};
+// Values: the lookup and the verdict, which is a judgement with its stage.
+pub use judgement::{Judgement, Stage};
+pub use value_queries::{lookup, verdict};
 
-// The listing's text, and the line of a refusal.
+// The listing's text, and why a question is refused, with its line.
+pub use cursor::Refusal;
 pub use listed::{listing, refusal_line};

@@ -5,11 +5,12 @@
 ghost use Rattle.std.specs.Prelude.{◌≤◌, length};
 ghost use Rattle.io.specs.Counts.{IsPrefixLen};
 
-use answer_text::{FILE_BYTES, TEXT_BYTES, answer_text};
+use answer_text::{FILE_BYTES, Printed, answer_text};
 use arguments::Question;
 use std::rt::Env;
 
-// Argument i put into the line at a place; the place after it. One that does not fit is none.
+// Argument i put into the line at a place; the place after it. One that does not fit is none. The system writes it into a slice, so the line is a
+// buffer with a place, and no vector.
 fn append_argument(rt: &impl Env, line: &mut [u8], at: usize, i: usize) -> usize
     requires { at ≤ length line.old }
     ensures { result ≤ length line.new }
@@ -49,9 +50,9 @@ fn read_for(rt: &impl Input, line: &[u8], file: &mut [u8; FILE_BYTES]) -> usize
 fn print(rt: &(impl Input + Print), line: &[u8]) {
     let mut file = [0u8; FILE_BYTES];
     let n = read_for(rt, line, &mut file);
-    let mut text = [0u8; TEXT_BYTES];
-    let m = answer_text(line, &file[..n], &mut text);
-    let _ = rt.write_all(&text[..m]);
+    let mut text = Printed::new();
+    answer_text(line, &file[..n], &mut text);
+    let _ = rt.write_all(text.as_slice());
 }
 
 fn main(rt: HostRuntime) {

@@ -2,31 +2,29 @@
 use mathlib.Core.Path.{◌≡◌, refl, sym, subst}
 use mathlib.Core.List.{List}
 use Prim.Native.Nat.{ℕ}
-use Rattle.meaning.specs.File.Parser.{Got}
-use Rattle.meaning.specs.File.Grammar.{Contents, read_file}
+use Rattle.std.specs.Prelude.{Ok, Err}
+use Rattle.meaning.specs.File.Parser.{Got, found, fault}
+use Rattle.meaning.specs.File.Grammar.{read_file}
 use Rattle.meaning.proofs.File.Reads.{file_promised}
-use Rattle.parsing.specs.declared.Outcome.{Outcome}
-use Rattle.parsing.specs.declared.Outcome.TheVariants.{Accepted, Refused}
-use Rattle.parsing.specs.declared.step.Step.{Step}
-use Rattle.parsing.specs.Steps.{Laid}
-use Rattle.parsing.proofs.Steps.{refused_was, accepted_was}
+use Rattle.cursor.specs.Answers.{number}
+use Rattle.cursor.specs.declared.Refusal.{Refusal}
+use Rattle.instrument.specs.declared.Instrument.{Instrument}
 use Rattle.reader.specs.Outcomes.{Tells, Found}
+use Rattle.reader.specs.Steps.{Reached}
 
--- of a step that has the instrument of what was found
-module _ (p : Step) where
-  pub laid_tells : (g : Got Contents) → Laid p g → Tells p.outcome g
-  laid_tells g l = go p.outcome refl
-    where
-      go : (o : Outcome) → p.outcome ≡ o → Tells o g
-      go Accepted e = subst (Tells Accepted) (sym (accepted_was p g e l).is) tt
-      go (Refused r) e = subst (Tells (Refused r)) (sym (refused_was p r g e l)) refl
+-- what is told of something found, and of a fault
+pub tells_found : {A B : Type 0} (a : A) (g : Got B) (b : B) (at : ℕ) → g ≡ found b at → Tells {A = A} (Ok a) g
+tells_found a g b at e = subst (Tells (Ok a)) (sym e) tt
 
-  pub laid_found : (file : List ℕ) → Laid p (read_file file) → p.outcome ≡ Accepted → Found file p.instrument
-  laid_found file l e =
-      let w = accepted_was p (read_file file) e l in
-      record {
-        contents = w.value;
-        end = p.at;
-        read = w.is;
-        describes = record { same = w.same; promised = file_promised file w.value p.at w.is };
-      }
+pub tells_fault : (A : Type 0) {B : Type 0} (r : Refusal) (g : Got B) → g ≡ fault (number r) → Tells {A = A} (Err r) g
+tells_fault A r g e = subst (Tells {A = A} (Err r)) (sym e) refl
+
+-- contents of the whole file that are reached
+pub reached_found : (file : List ℕ) (t : Instrument) (at : ℕ) → Reached (read_file file) t at → Found file t
+reached_found file t at p =
+    record {
+      contents = p.contents;
+      end = at;
+      read = p.read;
+      describes = record { same = p.laid; promised = file_promised file p.contents at p.read };
+    }

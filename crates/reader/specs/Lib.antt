@@ -2,5 +2,4 @@
 pub mod Outcomes
 -- what its functions promise each other
 pub mod Stages
-pub mod Answers
 pub mod Steps

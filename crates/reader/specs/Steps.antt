@@ -1,20 +1,39 @@
 -- What the functions that read a whole file promise each other.
-use Rattle.std.specs.Prelude.{◌≡◌, List, [], ℕ}
+use Rattle.std.specs.Prelude.{◌≡◌, List, [], Result, Ok, Err, IfOk, ℕ}
+use Rattle.std.specs.declared.ops.Range.{Range}
+use Rattle.meaning.specs.File.Parser.{Got, found, fault}
+use Rattle.meaning.specs.File.Grammar.{Contents}
+use Rattle.meaning.specs.File.Stretches.{Stretch, start_of, end_of}
+use Rattle.cursor.specs.Answers.{number}
 use Rattle.cursor.specs.declared.Refusal.{Refusal}
 use Rattle.instrument.specs.declared.Instrument.{Instrument}
+use Rattle.instrument.specs.declared.Node.{Node}
 use Rattle.instrument.specs.declared.Outline.{Outline}
 use Rattle.instrument.specs.Layout.{layout, nothing}
 use Rattle.instrument.specs.Outline.{outline_of}
-use Rattle.parsing.specs.declared.Outcome.{Outcome}
-use Rattle.parsing.specs.declared.Outcome.TheVariants.{Refused}
-use Rattle.parsing.specs.declared.step.Step.{Step}
-use Rattle.parsing.specs.Steps.{step_at, Goes}
 use Rattle.tables.specs.Growth.{assembled}
-use Rattle.tables.specs.Steps.{table_words}
-use Rattle.formulas.specs.Steps.{changed}
 use Rattle.reader.specs.declared.FileRead.{FileRead}
-use Rattle.reader.specs.declared.Reading.{Reading}
-use Rattle.reader.specs.Stages.{read_end}
+use Rattle.reader.specs.Outcomes.{Tells}
+
+-- an instrument with another formula and other starts
+abbrev pub changed : Instrument → ℕ → List Node → ℕ → List ℕ → Instrument
+changed t nodecount nodes startcount starts =
+    record {
+      components = t.components;
+      signals = t.signals;
+      driven = t.driven;
+      states = t.states;
+      inputcounts = t.inputcounts;
+      inputs = t.inputs;
+      outputcounts = t.outputcounts;
+      outputs = t.outputs;
+      outs = t.outs;
+      nexts = t.nexts;
+      nodecount = nodecount;
+      nodes = nodes;
+      startcount = startcount;
+      starts = starts;
+    }
 
 -- the instrument of a whole file
 abbrev pub held : FileRead → List ℕ → List ℕ → Instrument
@@ -25,14 +44,27 @@ held w outs nexts =
 abbrev pub held_outline : FileRead → List ℕ → Outline
 held_outline w outs = outline_of (held w outs [])
 
-abbrev pub whole_step : FileRead → List ℕ → List ℕ → Step
-whole_step w outs nexts = step_at w.outcome w.starts.at (held w outs nexts)
+-- contents that are read up to a place, laid out as this instrument
+pub record Reached (g : Got Contents) (t : Instrument) (at : ℕ) : Type 0 where
+  pub contents : Contents
+  pub read : g ≡ found contents at
+  pub laid : t ≡ layout contents
 
--- what a reading leaves: the outline of nothing where the file is refused, and in the lent array the successor sets before the fault, filled
-pub record Leaves (file : List ℕ) (r : Reading) (nexts : List ℕ) : Type 0 where
-  pub refused : (cause : Refusal) → r.outcome ≡ Refused cause → r.outline ≡ outline_of (layout nothing)
-  pub sets : nexts ≡ (table_words file).nexts
+-- what a reading of the whole file answers: the instrument of the contents, or the number of the fault
+pub record Read (w : FileRead) (outs nexts : List ℕ) (g : Got Contents) : Type 0 where
+  pub end : ℕ
+  pub reached : Reached g (held w outs nexts) end
 
--- from one outcome to the other, no byte is left
-pub record Ends (file : List ℕ) (o : Outcome) (at : ℕ) (p : Outcome) : Type 0 where
-  pub goes : (t : Instrument) → Goes file read_end (step_at o at t) (step_at p at t)
+abbrev pub Laid : Result FileRead Refusal → List ℕ → List ℕ → Got Contents → Type 0
+Laid (Ok w) outs nexts g = Read w outs nexts g
+Laid (Err r) outs nexts g = g ≡ fault (number r)
+
+-- the two places of a stretch that is found
+pub record Places (p : Range ℕ) (g : Got Stretch) : Type 0 where
+  pub start_is : p.start ≡ start_of g
+  pub end_is : p.end ≡ end_of g
+
+-- an answer says where something stands, or why nowhere
+pub record Locates (r : Result (Range ℕ) Refusal) (g : Got Stretch) : Type 0 where
+  pub told : Tells r g
+  pub places : IfOk r (λ p. Places p g)

@@ -11,12 +11,11 @@ use native.Mathlib.Decide.{dec_lt}
 use native.Mathlib.Omega.{arith}
 use Prim.Native.Nat.{ℕ, ◌^◌, ◌≤◌, ◌<◌}
 use Rattle.words.specs.Sets.{has, built, below}
-use Rattle.words.proofs.Members.{and_true, below_lt, has_below, has_lt, has_none}
+use Rattle.words.proofs.Members.{and_true, below_lt, has_below, has_none}
 use Rattle.words.proofs.Built.{built_has, built_lt, built_same}
 use Rattle.meaning.specs.Table.{Table}
 use Rattle.meaning.specs.Relation.{LargestRelation, Rule, passed, failed, alike}
 use Rattle.meaning.specs.Reference.Relation.{largest_b, matched_b}
-use Rattle.meaning.specs.StepWords.{step_table}
 use Rattle.meaning.proofs.Basic.Booleans.{and_in, and_l, and_r, or_l, or_r, or_out, test_eq}
 use Rattle.meaning.proofs.Basic.Decides.{DecidesPairs, test_decides}
 use Rattle.meaning.proofs.Classes.Largest.{relation_out, relation_decides}
@@ -25,7 +24,9 @@ use Rattle.classes.specs.Rows.{rel, rows}
 use Rattle.classes.specs.Related.{related_all, related_fixed}
 use Rattle.classes.specs.Matching.{conversed, rules, ruled}
 use Rattle.meaning.specs.File.Grammar.{most_states}
-use Rattle.refinement.specs.Again.{known_b, fine_b, Fine, Cut, Side, Working}
+use Rattle.mark_rules.specs.declared.Mark.{Mark}
+use Rattle.refinement.specs.declared.side.Side.{Side}
+use Rattle.refinement.specs.Again.{known_b, fine_b, Fine, Cut, Noted, Working}
 use Rattle.classes.proofs.Padded.{padded_is, padded_past}
 use Rattle.classes.proofs.Rows.{length_rows, row_at, rel_rows_lem}
 use Rattle.classes.proofs.Ruled.{converse_at}
@@ -46,9 +47,15 @@ rows_cut n b m = record { long = length_rows n b; narrow = narrow; past = padded
           | no l ↦ rw (padded_past most_states n (λ x. built n (b x)) x (omega arith)) (pow_pos n)
         ]
 
-module _ (states inputs : ℕ) (succ compared operands : List ℕ) (pass fail : ℕ) where
-  abbrev t : Table
-  t = step_table states inputs succ
+module _ (t : Table) (compared operands : List ℕ) (mark : Mark) where
+  abbrev states : ℕ
+  states = t.states
+
+  abbrev pass : ℕ
+  pass = mark.pass
+
+  abbrev fail : ℕ
+  fail = mark.fail
 
   abbrev c : ℕ → ℕ
   c z = get_or compared z 0
@@ -65,14 +72,14 @@ module _ (states inputs : ℕ) (succ compared operands : List ℕ) (pass fail : 
 
   -- the operands' pairs with which the work starts
   abbrev first : List ℕ
-  first = ruled states compared operands pass fail (related_all states) (related_all states)
+  first = ruled states compared operands mark (related_all states) (related_all states)
 
   abbrev first_b : ℕ → ℕ → Bool
   first_b x y = rel operands x y && ((has pass x && has pass y) || ((has fail x && has fail y) || eqb (c x) (c y)))
 
   -- the work between the two
-  abbrev pub Work : List ℕ → List ℕ → List ℕ → List ℕ → ℕ → ℕ → Type 0
-  Work r s d e here there = Working states inputs succ pass fail first_b most r s d e here there
+  abbrev pub Work : Side → Side → Type 0
+  Work A B = Working t mark first_b most A B
 
   largest : DecidesPairs states most (LargestRelation t c (λ x y. T (rel operands x y)) P F)
   largest = relation_decides t c (test_decides (has pass)) (test_decides (has fail)) (test_pairs (rel operands))
@@ -81,31 +88,31 @@ module _ (states inputs : ℕ) (succ compared operands : List ℕ) (pass fail : 
   rule : (x y : ℕ) → x < states → y < states → T (most x y) → Rule t c P F F (λ u v. T (most u v)) x y
   rule x y l k h = rule_map t c (λ u v p q i. largest.whole u v p q i) x y (relation_out t c l k (largest.sound x y l k h)).1
 
-  known_in : (x y : ℕ) → T (has pass x && has pass y) ⊎ T (has fail x && has fail y) → T (known_b pass fail x y)
+  known_in : (x y : ℕ) → T (has pass x && has pass y) ⊎ T (has fail x && has fail y) → T (known_b mark x y)
   known_in x y (inl h) = or_l (has pass x && has pass y) (has fail x && has fail y) h
   known_in x y (inr h) = or_r (has pass x && has pass y) (has fail x && has fail y) h
 
-  fine_known : (R : ℕ → ℕ → Bool) (x y : ℕ) → T (has pass x && has pass y) ⊎ T (has fail x && has fail y) → T (fine_b states inputs succ pass fail R x y)
-  fine_known R x y h = or_l (known_b pass fail x y) (matched_b t (λ z. 0) (has fail) (λ u v. R v u) y x) (known_in x y h)
+  fine_known : (R : ℕ → ℕ → Bool) (x y : ℕ) → T (has pass x && has pass y) ⊎ T (has fail x && has fail y) → T (fine_b t mark R x y)
+  fine_known R x y h = or_l (known_b mark x y) (matched_b t (λ z. 0) (has fail) (λ u v. R v u) y x) (known_in x y h)
 
-  most_fine : Fine states inputs succ pass fail most
+  most_fine : Fine t mark most
   most_fine = record { each = λ x y l k h. on x y (rule x y l k h) }
     where
-      on : (x y : ℕ) → Rule t c P F F (λ u v. T (most u v)) x y → T (fine_b states inputs succ pass fail most x y)
+      on : (x y : ℕ) → Rule t c P F F (λ u v. T (most u v)) x y → T (fine_b t mark most x y)
       on x y (passed a b) = fine_known most x y (inl (and_in (has pass x) (has pass y) a b))
       on x y (failed a b) = fine_known most x y (inr (and_in (has fail x) (has fail y) a b))
       on x y (alike h) =
-          or_r (known_b pass fail x y) (matched_b t (λ z. 0) (has fail) (λ u v. most v u) y x)
+          or_r (known_b mark x y) (matched_b t (λ z. 0) (has fail) (λ u v. most v u) y x)
           (match_in t (λ z. 0) (test_decides (has fail)) (λ u v. most v u) y x h.back)
 
-  most_back : Fine states inputs succ pass fail (λ x y. most y x)
+  most_back : Fine t mark (λ x y. most y x)
   most_back = record { each = λ x y l k h. on x y (rule y x k l h) }
     where
-      on : (x y : ℕ) → Rule t c P F F (λ u v. T (most u v)) y x → T (fine_b states inputs succ pass fail (λ x y. most y x) x y)
+      on : (x y : ℕ) → Rule t c P F F (λ u v. T (most u v)) y x → T (fine_b t mark (λ x y. most y x) x y)
       on x y (passed a b) = fine_known (λ x y. most y x) x y (inl (and_in (has pass x) (has pass y) b a))
       on x y (failed a b) = fine_known (λ x y. most y x) x y (inr (and_in (has fail x) (has fail y) b a))
       on x y (alike h) =
-          or_r (known_b pass fail x y) (matched_b t (λ z. 0) (has fail) (λ u v. most u v) y x)
+          or_r (known_b mark x y) (matched_b t (λ z. 0) (has fail) (λ u v. most u v) y x)
           (match_in t (λ z. 0) (test_decides (has fail)) (λ u v. most u v) y x h.forth)
 
   module _ (m : states ≤ most_states) where
@@ -113,7 +120,7 @@ module _ (states inputs : ℕ) (succ compared operands : List ℕ) (pass fail : 
     first_at : (x y : ℕ) → x < states → y < states → rel first x y ≡ first_b x y
     unfolding ruled related_all
     first_at x y l k =
-        rel_rows_lem states (rules compared operands pass fail (related_all states) (related_all states)) x y m l k
+        rel_rows_lem states (rules compared operands mark (related_all states) (related_all states)) x y m l k
         ∙ ap (λ b. rel operands x y && ((has pass x && has pass y) || ((has fail x && has fail y) || b)))
         (ap (λ b. eqb (c x) (c y) && (b && b)) (rel_rows_lem states (λ x y. true) x y m l k) ∙ and_true (eqb (c x) (c y)))
 
@@ -135,16 +142,19 @@ module _ (states inputs : ℕ) (succ compared operands : List ℕ) (pass fail : 
         on (failed a b) = or_r p (q || e) (or_l q e (and_in (has fail x) (has fail y) a b))
         on (alike h) = or_r p (q || e) (or_r q e (subst (λ o. T (eqb (c x) o)) h.same (eqb_refl (c x))))
 
-    side : (r : List ℕ) → Cut states r → Side states inputs succ pass fail r r (below states)
+    abbrev begun : List ℕ → Side
+    begun r = record { rows = r; again = r; todo = below states }
+
+    side : (r : List ℕ) → Cut states r → Noted t mark (begun r)
     side r h =
         record {
           cut = h;
           settled = λ x y l k i. inl i;
           listed = λ x y l i. subst T (sym (has_below states x l)) tt;
-          rows = λ x i. has_lt states (below states) x (below_lt states) i;
+          narrow = below_lt states;
         }
 
-    start : {s : List ℕ} → s ≡ conversed states first → Work first s first s (below states) (below states)
+    start : {s : List ℕ} → s ≡ conversed states first → Work (begun first) (begun s)
     unfolding ruled conversed
     start {s} e =
         record {
@@ -158,32 +168,33 @@ module _ (states inputs : ℕ) (succ compared operands : List ℕ) (pass fail : 
         }
 
     -- step by step as the code makes it
-    pub working_start : {all r s : List ℕ} {every : ℕ} → all ≡ related_all states → r ≡ ruled states compared operands pass fail all all
-        → s ≡ conversed states r → every ≡ below states → Work r s r s every every
+    pub working_start : {all r s : List ℕ} {every : ℕ} → all ≡ related_all states → r ≡ ruled states compared operands mark all all
+        → s ≡ conversed states r → every ≡ below states
+        → Work (record { rows = r; again = r; todo = every }) (record { rows = s; again = s; todo = every })
     working_start ea er es ey = rw (ey, er, ea) (start (rw (er, ea) at es))
 
     -- ---- end: no row is to be looked at
-    all_fine : {r d : List ℕ} → Side states inputs succ pass fail r d 0 → (x y : ℕ) → x < states → y < states → T (rel r x y)
-        → T (fine_b states inputs succ pass fail (rel r) x y)
-    all_fine {r} {d} h x y l k i = on (h.settled x y l k i)
+    all_fine : {A : Side} → Noted t mark A → A.todo ≡ 0 → (x y : ℕ) → x < states → y < states → T (rel A.rows x y)
+        → T (fine_b t mark (rel A.rows) x y)
+    all_fine {A} h n x y l k i = on (h.settled x y l k i)
       where
-        on : T (rel d x y) ⊎ T (fine_b states inputs succ pass fail (rel r) x y) → T (fine_b states inputs succ pass fail (rel r) x y)
-        on (inl z) = absurd (subst T (has_none x) (h.listed x y l z))
+        on : T (rel A.again x y) ⊎ T (fine_b t mark (rel A.rows) x y) → T (fine_b t mark (rel A.rows) x y)
+        on (inl z) = absurd (subst T (ap (λ w. has w x) n ∙ has_none x) (h.listed x y l z))
         on (inr f) = f
 
-    module _ {r s d e : List ℕ} (w : Work r s d e 0 0) where
+    module _ {A B : Side} (w : Work A B) (na : A.todo ≡ 0) (nb : B.todo ≡ 0) where
       abbrev Kept : ℕ → ℕ → Type 0
-      Kept x y = Rule t c P F F (λ u v. T (rel r u v)) x y
+      Kept x y = Rule t c P F F (λ u v. T (rel A.rows u v)) x y
 
       -- both PASS or both FAIL
-      by_known : (x y : ℕ) → T (known_b pass fail x y) → Kept x y
+      by_known : (x y : ℕ) → T (known_b mark x y) → Kept x y
       by_known x y h = on (or_out (has pass x && has pass y) (has fail x && has fail y) h)
         where
           on : T (has pass x && has pass y) ⊎ T (has fail x && has fail y) → Kept x y
           on (inl h) = passed (and_l (has pass x) (has pass y) h) (and_r (has pass x) (has pass y) h)
           on (inr h) = failed (and_l (has fail x) (has fail y) h) (and_r (has fail x) (has fail y) h)
 
-      keeps : (x y : ℕ) → x < states → y < states → T (rel r x y) → T (rel operands x y) × Kept x y
+      keeps : (x y : ℕ) → x < states → y < states → T (rel A.rows x y) → T (rel operands x y) × Kept x y
       keeps x y l k i =
           let f = w.inside x y l k i in
           let p = has pass x && has pass y in
@@ -196,11 +207,11 @@ module _ (states inputs : ℕ) (succ compared operands : List ℕ) (pass fail : 
           matched x y r = matched_b t (λ z. 0) (has fail) (λ u v. rel r v u) y x
 
           -- each half of the rule
-          halves : c x ≡ c y → T (known_b pass fail x y) ⊎ T (matched x y r) → T (known_b pass fail y x) ⊎ T (matched y x s) → Kept x y
+          halves : c x ≡ c y → T (known_b mark x y) ⊎ T (matched x y A.rows) → T (known_b mark y x) ⊎ T (matched y x B.rows) → Kept x y
           halves o (inl h) b = by_known x y h
           halves o (inr h) (inl b) = by_known x y (on (or_out (has pass y && has pass x) (has fail y && has fail x) b))
             where
-              on : T (has pass y && has pass x) ⊎ T (has fail y && has fail x) → T (known_b pass fail x y)
+              on : T (has pass y && has pass x) ⊎ T (has fail y && has fail x) → T (known_b mark x y)
               on (inl h) = known_in x y (inl (and_in (has pass x) (has pass y) (and_r (has pass y) (has pass x) h) (and_l (has pass y) (has pass x) h)))
               on (inr h) = known_in x y (inr (and_in (has fail x) (has fail y) (and_r (has fail y) (has fail x) h) (and_l (has fail y) (has fail x) h)))
           halves o (inr h) (inr b) =
@@ -209,8 +220,8 @@ module _ (states inputs : ℕ) (succ compared operands : List ℕ) (pass fail : 
                 same = o;
                 forth =
                     matched_at t (λ z. 0) x y (λ a u v p f g j. subst T (w.turned u v f.0 g.0) j)
-                    (match_out t (λ z. 0) (test_decides (has fail)) (λ u v. rel s v u) x y b);
-                back = match_out t (λ z. 0) (test_decides (has fail)) (λ u v. rel r v u) y x h;
+                    (match_out t (λ z. 0) (test_decides (has fail)) (λ u v. rel B.rows v u) x y b);
+                back = match_out t (λ z. 0) (test_decides (has fail)) (λ u v. rel A.rows v u) y x h;
               })
 
           start : T (has pass x && has pass y) ⊎ T ((has fail x && has fail y) || eqb (c x) (c y)) → Kept x y
@@ -220,20 +231,16 @@ module _ (states inputs : ℕ) (succ compared operands : List ℕ) (pass fail : 
               on : T (has fail x && has fail y) ⊎ T (eqb (c x) (c y)) → Kept x y
               on (inl h) = by_known x y (known_in x y (inr h))
               on (inr h) =
-                  halves (eqb→eq (c x) (c y) h) (or_out (known_b pass fail x y) (matched x y r) (all_fine w.one x y l k i))
-                  (or_out (known_b pass fail y x) (matched y x s) (all_fine w.two y x k l (subst T (sym (w.turned x y l k)) i)))
+                  halves (eqb→eq (c x) (c y) h) (or_out (known_b mark x y) (matched x y A.rows) (all_fine w.one na x y l k i))
+                  (or_out (known_b mark y x) (matched y x B.rows) (all_fine w.two nb y x k l (subst T (sym (w.turned x y l k)) i)))
 
-      working_end : r ≡ related_fixed states inputs succ compared operands pass fail
+      pub settled_end : A.rows ≡ related_fixed t compared operands mark
       unfolding related_fixed rows
-      working_end =
-          padded_is most_states states (λ x. built states (most x)) r m w.one.cut.long
+      settled_end =
+          padded_is most_states states (λ x. built states (most x)) A.rows m w.one.cut.long
           (λ x l.
-          sym (built_has states (get_or r x 0) (w.one.cut.narrow x))
-          ∙ built_same states (rel r x) (most x) (λ y k.
-          test_eq (rel r x y) (most x y)
-          (λ i. largest.whole x y l k (record { rel = rel r; here = i; keeps = λ u v p q j. keeps u v p q j })) (λ i. w.holds x y l k i)))
+          sym (built_has states (get_or A.rows x 0) (w.one.cut.narrow x))
+          ∙ built_same states (rel A.rows x) (most x) (λ y k.
+          test_eq (rel A.rows x y) (most x y)
+          (λ i. largest.whole x y l k (record { rel = rel A.rows; here = i; keeps = λ u v p q j. keeps u v p q j })) (λ i. w.holds x y l k i)))
           (λ x l p. w.one.cut.past x l)
-
-    pub settled_end : {r s d e : List ℕ} {here there : ℕ} → here ≡ 0 → there ≡ 0 → Work r s d e here there
-        → r ≡ related_fixed states inputs succ compared operands pass fail
-    settled_end h k w = working_end (rw (h, k) at w)

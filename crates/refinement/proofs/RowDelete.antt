@@ -10,20 +10,19 @@ use native.Mathlib.Decide.{ℕ_discrete}
 use native.Mathlib.Omega.{arith}
 use Prim.Native.Nat.{ℕ, ◌^◌, ◌≤◌, ◌<◌}
 use Rattle.words.specs.Sets.{has, built, complement, insert, intersection, union, without}
-use Rattle.words.proofs.Members.{has_intersection, has_lt, has_none, has_union, intersection_le}
-use Rattle.words.proofs.Built.{complement_lt, difference_iff, has_built, has_built_lt, less_in, less_out}
-use Rattle.meaning.specs.Table.{assignments, Successor}
+use Rattle.words.proofs.Members.{has_intersection, has_lt, has_none, has_union, intersection_le, intersection_lt, union_lt}
+use Rattle.words.proofs.Built.{built_lt, complement_lt, difference_iff, has_built, has_built_lt, less_in, less_out}
+use Rattle.meaning.specs.Table.{Table, assignments, Successor}
 use Rattle.meaning.specs.Tests.{any_below}
-use Rattle.meaning.specs.StepWords.{step_table, successor_word}
-use Rattle.meaning.proofs.Basic.Booleans.{and_in, and_l, and_r, dec-T, or_l, or_r, or_out}
+use Rattle.meaning.proofs.Basic.Booleans.{and_in, and_l, and_r, dec-T, or_l, or_r}
 use Rattle.meaning.proofs.Basic.Bounded.{any_in, any_out}
-use Rattle.meaning.specs.Reference.Truth.{up_to}
-use Rattle.meaning.proofs.Meaning.Full.{length_up_to}
 use Rattle.classes.specs.Rows.{rel}
 use Rattle.meaning.specs.File.Grammar.{most_states}
 use Rattle.state_words.specs.Width.{state_bits}
 use Rattle.classes.specs.Changed.{Changed}
-use Rattle.refinement.specs.Again.{predecessor_rows, fine_b, before_any, Arrays, Deleted, Cut, Working}
+use Rattle.mark_rules.specs.declared.Mark.{Mark}
+use Rattle.refinement.specs.declared.side.Side.{Side}
+use Rattle.refinement.specs.Again.{predecessor_rows, fine_b, before_any, Deleted, Cut, Working}
 use Rattle.classes.proofs.Rows.{rel_rows_lem, row_at}
 use Rattle.refinement.proofs.RowLook.{working_looked}
 
@@ -130,99 +129,96 @@ module _ (states : ℕ) (r : List ℕ) (x failed : ℕ) (q : length r ≡ most_s
           | no n ↦ subst (λ v. T (has v w)) (sym (apart z n)) i
         ]
 
-module _ (states inputs : ℕ) (succ : List ℕ) (pass fail : ℕ) (m : states ≤ most_states) (pre : List ℕ) (ep : pre ≡ predecessor_rows states inputs succ) where
-  abbrev goes : ℕ → ℕ → Bool
-  goes v z = any_below (2 ^ inputs) (λ a. has (successor_word inputs succ z a) v)
+-- a relation of which no pair of row x is noted any more, and the rows that are left
+abbrev pub cleared_row : Side → ℕ → ℕ → Side
+cleared_row A x left = record { rows = A.rows; again = set A.again x 0; todo = left }
 
-  -- a state is a predecessor of its successors, and predecessors are states
-  pub prior : (z v a : ℕ) → z < states → a < assignments (step_table states inputs succ) → Successor (step_table states inputs succ) z a v → T (rel pre v z)
+module _ (t : Table) (mark : Mark) (m : t.states ≤ most_states) (pre : List ℕ) (ep : pre ≡ predecessor_rows t) where
+  abbrev goes : ℕ → ℕ → Bool
+  goes v z = any_below (assignments t) (λ a. t.next z a v)
+
+  -- a state is a predecessor of its successors, and predecessors are t.states
+  pub prior : (z v a : ℕ) → z < t.states → a < assignments t → Successor t z a v → T (rel pre v z)
   unfolding predecessor_rows
   prior z v a l b s =
-      let k : 2 ^ length (up_to inputs) ≡ 2 ^ inputs = rw (length_up_to inputs) in
-      let i : T (goes v z) = any_in (2 ^ inputs) (λ a. has (successor_word inputs succ z a) v) a (omega arith) (rw (length_up_to inputs) at s.1) in
-      subst T (sym (ap (λ p. rel p v z) ep ∙ rel_rows_lem states goes v z m s.0 l)) i
+      let i : T (goes v z) = any_in (assignments t) (λ a. t.next z a v) a b s.1 in
+      subst T (sym (ap (λ p. rel p v z) ep ∙ rel_rows_lem t.states goes v z m s.0 l)) i
 
-  pub before_state : (x z : ℕ) → x < states → T (rel pre x z) → z < states
+  before_narrow : (x : ℕ) → x < t.states → get_or pre x 0 < 2 ^ t.states
   unfolding predecessor_rows
-  before_state x z l i =
-      has_built_lt states (goes x) z (subst (λ w. T (has w z)) (ap (λ p. get_or p x 0) ep ∙ row_at states goes x m l) i)
+  before_narrow x l = rw (ap (λ p. get_or p x 0) ep ∙ row_at t.states goes x m l) (built_lt t.states (goes x))
 
-  module _ {E L : ℕ → ℕ → Bool} {r s d e : List ℕ} {here there : ℕ} (w : Working states inputs succ pass fail E L r s d e here there) (x : ℕ) (l : x < states)
-      (a : Arrays r s d e) where
+  module _ {E L : ℕ → ℕ → Bool} {A B : Side} (w : Working t mark E L A B) (x : ℕ) (l : x < t.states) (long : length A.again ≡ most_states) where
     abbrev fine : ℕ → Bool
-    fine y = fine_b states inputs succ pass fail (rel r) x y
+    fine y = fine_b t mark (rel A.rows) x y
 
     abbrev test : ℕ → Bool
-    test y = (rel r x y && has (get_or d x 0) y) && not (fine y)
+    test y = (rel A.rows x y && has (get_or A.again x 0) y) && not (fine y)
 
     cleared : List ℕ
-    cleared = set d x 0
+    cleared = set A.again x 0
 
     -- what is noted elsewhere than in row x
-    elsewhere : (z y : ℕ) → z ≢ x → T (rel d z y) → T (rel cleared z y)
+    elsewhere : (z y : ℕ) → z ≢ x → T (rel A.again z y) → T (rel cleared z y)
     unfolding cleared
-    elsewhere z y n i = rw (get_or-set_other d x z 0 0 n) i
+    elsewhere z y n i = rw (get_or-set_other A.again x z 0 0 n) i
 
-    elsewhere_out : (z y : ℕ) → T (rel cleared z y) → (z ≢ x) × T (rel d z y)
+    elsewhere_out : (z y : ℕ) → T (rel cleared z y) → (z ≢ x) × T (rel A.again z y)
     unfolding cleared
     elsewhere_out z y i =
         elim (ℕ_discrete z x) [
-          | yes e ↦ absurd (subst T (has_none y) (subst (λ v. T (has v y)) (ap (λ z. get_or (set d x 0) z 0) e ∙ get_or-set_same d x 0 0 (omega (arith, a.again))) i))
-          | no n ↦ (n, subst (λ v. T (has v y)) (get_or-set_other d x z 0 0 n) i)
+          | yes e ↦ absurd (subst T (has_none y) (subst (λ v. T (has v y)) (ap (λ z. get_or (set A.again x 0) z 0) e ∙ get_or-set_same A.again x 0 0 (omega (arith, long))) i))
+          | no n ↦ (n, subst (λ v. T (has v y)) (get_or-set_other A.again x z 0 0 n) i)
         ]
 
-    module _ (failed : ℕ) (ef : failed ≡ built states test) where
+    module _ (failed : ℕ) (ef : failed ≡ built t.states test) where
       abbrev others : ℕ
-      others = before_any states pre failed
+      others = before_any t.states pre failed
 
-      failed_state : (y : ℕ) → T (has failed y) → y < states
-      failed_state y i = has_built_lt states test y (subst (λ v. T (has v y)) ef i)
+      failed_state : (y : ℕ) → T (has failed y) → y < t.states
+      failed_state y i = has_built_lt t.states test y (subst (λ v. T (has v y)) ef i)
 
-      failed_test : (y : ℕ) → y < states → has failed y ≡ test y
-      failed_test y k = ap (λ v. has v y) ef ∙ has_built states test y k
+      failed_test : (y : ℕ) → y < t.states → has failed y ≡ test y
+      failed_test y k = ap (λ v. has v y) ef ∙ has_built t.states test y k
 
       breaks : (y : ℕ) → T (has failed y) → T (fine y) → ⊥
-      breaks y i = T_not (fine y) (and_r (rel r x y && has (get_or d x 0) y) (not (fine y)) (subst T (failed_test y (failed_state y i)) i))
+      breaks y i = T_not (fine y) (and_r (rel A.rows x y && has (get_or A.again x 0) y) (not (fine y)) (subst T (failed_test y (failed_state y i)) i))
 
-      looked : (y : ℕ) → y < states → T (rel r x y) → T (rel d x y) → T (has failed y) ⊎ T (fine y)
+      looked : (y : ℕ) → y < t.states → T (rel A.rows x y) → T (rel A.again x y) → T (has failed y) ⊎ T (fine y)
       looked y k i g = on (dec-T (fine y))
         where
           on : T (fine y) ⊎ T (not (fine y)) → T (has failed y) ⊎ T (fine y)
           on (inl f) = inr f
           on (inr n) =
               inl (subst T (sym (failed_test y k))
-              (and_in (rel r x y && has (get_or d x 0) y) (not (fine y)) (and_in (rel r x y) (has (get_or d x 0) y) i g) n))
+              (and_in (rel A.rows x y && has (get_or A.again x 0) y) (not (fine y)) (and_in (rel A.rows x y) (has (get_or A.again x 0) y) i g) n))
 
       spread_test : ℕ → ℕ → Bool
       spread_test u v = has failed v && rel pre v u
 
-      spread : (y u : ℕ) → u < states → T (has failed y) → T (rel pre y u) → T (has others u)
+      spread : (y u : ℕ) → u < t.states → T (has failed y) → T (rel pre y u) → T (has others u)
       unfolding spread_test
       spread y u k i b =
-          subst T (sym (has_built states (λ u. any_below states (spread_test u)) u k))
-          (any_in states (spread_test u) y (failed_state y i) (and_in (has failed y) (rel pre y u) i b))
-
-      others_state : (u : ℕ) → T (has others u) → u < states
-      unfolding spread_test
-      others_state u i = has_built_lt states (λ u. any_below states (spread_test u)) u i
+          subst T (sym (has_built t.states (λ u. any_below t.states (spread_test u)) u k))
+          (any_in t.states (spread_test u) y (failed_state y i) (and_in (has failed y) (rel pre y u) i b))
 
       -- the rows to look at, but for x
       left : ℕ
-      left = without state_bits here x
+      left = without state_bits A.todo x
 
-      left_in : (z : ℕ) → z < states → z ≢ x → T (has here z) → T (has left z)
+      left_narrow : left < 2 ^ t.states
       unfolding left without
-      left_in z k n i = less_in state_bits here x z (omega arith) (λ e. n (sym e)) i
+      left_narrow = intersection_lt t.states A.todo (complement state_bits (insert 0 x)) w.one.narrow
 
-      left_out : (z : ℕ) → T (has left z) → T (has here z)
+      left_in : (z : ℕ) → z < t.states → z ≢ x → T (has A.todo z) → T (has left z)
       unfolding left without
-      left_out z i = (less_out state_bits here x z i).1
+      left_in z k n i = less_in state_bits A.todo x z (omega arith) (λ e. n (sym e)) i
 
       -- nothing fails
-      pub working_none : failed ≡ 0 → Working states inputs succ pass fail E L r s (set d x 0) e (without state_bits here x) there
+      pub working_none : failed ≡ 0 → Working t mark E L (cleared_row A x (without state_bits A.todo x)) B
       unfolding cleared left spread_test
       working_none z =
-          working_looked states inputs succ pass fail (rel pre) x failed others prior l w
+          working_looked t mark (rel pre) x failed others prior l w
           (record {
             breaks = breaks;
             looked = looked;
@@ -236,42 +232,40 @@ module _ (states inputs : ℕ) (succ : List ℕ) (pass fail : ℕ) (m : states �
             old = elsewhere;
             old_back = λ v u i. i;
             noted = λ u v b i.
-                let k = has_built_lt states (λ u. any_below states (spread_test u)) v i in
-                let h = any_out states (spread_test v) (subst T (has_built states (λ u. any_below states (spread_test u)) v k) i) in
+                let k = has_built_lt t.states (λ u. any_below t.states (spread_test u)) v i in
+                let h = any_out t.states (spread_test v) (subst T (has_built t.states (λ u. any_below t.states (spread_test u)) v k) i) in
                 absurd (no h.0 (and_l (has failed h.0) (rel pre h.0 v) h.2));
             only = λ u v k i. let o = elsewhere_out u v i in left_in u k o.0 (w.one.listed u v k o.1);
             only_back = λ v u k i. w.two.listed v u k i;
-            rows = λ u i. w.one.rows u (left_out u i);
-            rows_back = w.two.rows;
+            narrow = left_narrow;
+            narrow_back = w.two.narrow;
           })
         where
           no : (y : ℕ) → T (has failed y) → ⊥
           no y i = subst T (has_none y) (subst (λ v. T (has v y)) z i)
 
       -- what fails goes
-      pub working_deleted : {r' s' d' e' : List ℕ} {here' there' : ℕ}
-          → Deleted states pre x failed r s (set d x 0) e r' s' d' e' (without state_bits here x) there here' there'
-          → Working states inputs succ pass fail E L r' s' d' e' here' there'
+      pub working_deleted : {A' B' : Side} → Deleted t.states pre x failed (cleared_row A x (without state_bits A.todo x)) B A' B' → Working t mark E L A' B'
       unfolding cleared left
-      working_deleted {r'} {s'} {d'} {e'} {here'} {there'} h =
-          working_looked states inputs succ pass fail (rel pre) x failed others prior l w
+      working_deleted {A'} {B'} h =
+          working_looked t mark (rel pre) x failed others prior l w
           (record {
             breaks = breaks;
             looked = looked;
             spread = spread;
-            cut = rw h.rows (row_cut states r x failed w.one.cut.long (omega arith) w.one.cut);
+            cut = rw h.rows (row_cut t.states A.rows x failed w.one.cut.long (omega arith) w.one.cut);
             cut_back = removed_cut x h.other w.two.cut;
-            fewer = λ u v i. row_out states r x failed w.one.cut.long (omega arith) w.one.cut u v (subst (λ r. T (rel r u v)) h.rows i);
-            rest = λ u v i g. subst (λ r. T (rel r u v)) (sym h.rows) (row_in states r x failed w.one.cut.long (omega arith) w.one.cut u v i g);
+            fewer = λ u v i. row_out t.states A.rows x failed w.one.cut.long (omega arith) w.one.cut u v (subst (λ r. T (rel r u v)) h.rows i);
+            rest = λ u v i g. subst (λ r. T (rel r u v)) (sym h.rows) (row_in t.states A.rows x failed w.one.cut.long (omega arith) w.one.cut u v i g);
             fewer_back = λ v u i. removed_out x h.other v u i;
-            rest_back = λ v u i g. removed_in x h.other v u (let k = has_lt states (get_or s v 0) u (w.two.cut.narrow v) i in omega arith) i g;
+            rest_back = λ v u i g. removed_in x h.other v u (let k = has_lt t.states (get_or B.rows v 0) u (w.two.cut.narrow v) i in omega arith) i g;
             old = λ u v n i. added_old others h.again u v (elsewhere u v n i);
             old_back = λ v u i. added_old (get_or pre x 0) h.back v u i;
             noted = λ u v b i. (added_new others h.again u v b i, added_new (get_or pre x 0) h.back v u i b);
             only = λ u v k i. more (get_or pre x 0) left u h.more (here_now u v k (added_only others h.again u v i));
-            only_back = λ v u k i. more others there v h.more_back (there_now v u k (added_only (get_or pre x 0) h.back v u i));
-            rows = λ u i. here_row u (or_out (rel pre x u) (has left u) (subst T (ap (λ v. has v u) h.more ∙ has_union (get_or pre x 0) left u) i));
-            rows_back = λ v i. there_row v (or_out (has others v) (has there v) (subst T (ap (λ u. has u v) h.more_back ∙ has_union others there v) i));
+            only_back = λ v u k i. more others B.todo v h.more_back (there_now v u k (added_only (get_or pre x 0) h.back v u i));
+            narrow = rw h.more (union_lt t.states (get_or pre x 0) left (before_narrow x l) left_narrow);
+            narrow_back = rw h.more_back (union_lt t.states others B.todo (built_lt t.states _) w.two.narrow);
           })
         where
           -- a member of either part
@@ -279,18 +273,10 @@ module _ (states inputs : ℕ) (succ : List ℕ) (pass fail : ℕ) (m : states �
           more p q u e (inl i) = rw (e, has_union p q u) (or_l (has p u) (has q u) i)
           more p q u e (inr i) = rw (e, has_union p q u) (or_r (has p u) (has q u) i)
 
-          here_now : (u v : ℕ) → u < states → T (rel pre x u) ⊎ T (rel cleared u v) → T (rel pre x u) ⊎ T (has left u)
+          here_now : (u v : ℕ) → u < t.states → T (rel pre x u) ⊎ T (rel cleared u v) → T (rel pre x u) ⊎ T (has left u)
           here_now u v k (inl b) = inl b
           here_now u v k (inr i) = let o = elsewhere_out u v i in inr (left_in u k o.0 (w.one.listed u v k o.1))
 
-          there_now : (v u : ℕ) → v < states → T (has others v) ⊎ T (rel e v u) → T (has others v) ⊎ T (has there v)
+          there_now : (v u : ℕ) → v < t.states → T (has others v) ⊎ T (rel B.again v u) → T (has others v) ⊎ T (has B.todo v)
           there_now v u k (inl b) = inl b
           there_now v u k (inr i) = inr (w.two.listed v u k i)
-
-          here_row : (u : ℕ) → T (rel pre x u) ⊎ T (has left u) → u < states
-          here_row u (inl b) = before_state x u l b
-          here_row u (inr i) = w.one.rows u (left_out u i)
-
-          there_row : (v : ℕ) → T (has others v) ⊎ T (has there v) → v < states
-          there_row v (inl b) = others_state v b
-          there_row v (inr i) = w.two.rows v i

@@ -1,81 +1,16 @@
 // A relation and its converse settled: rows with noted pairs are looked at until there are none (specs/Again.antt: Working).
-ghost use Rattle.std.specs.Prelude.{◌≡◌, Bool, ℕ, ◌^◌, ◌≤◌, ◌<◌, T};
+ghost use Rattle.std.specs.Prelude.{Bool, ℕ, ◌^◌, ◌≤◌, ◌<◌, T};
 ghost use Rattle.words.specs.Sets.{has};
 ghost use Rattle.meaning.specs.File.Grammar.{most_states};
-ghost use Rattle.meaning.specs.StepWords.{Steps};
-ghost use Rattle.refinement.specs.Again.{predecessor_rows, Arrays, Deleted, Looked, Settled, Working};
+ghost use Rattle.instrument.specs.Table.{table_of};
+ghost use Rattle.refinement.specs.Again.{Deleted, Looked, Settled, Working};
 
 use crate::again::{failing, unrelate};
+use crate::marked::Marked;
+use crate::side::Side;
 use classes::matching::image;
 use classes::relation::{Rows, mark};
 use state_words::StateSet;
-
-// The rows to look at: of the relation, and of its converse.
-#[derive(Drop)]
-pub(crate) struct Todo {
-    pub(crate) here: StateSet,
-    pub(crate) there: StateSet,
-}
-
-// Takes the pairs of x and the members of `failed` out, and notes the pairs of their predecessors.
-fn delete(
-    states: usize,
-    pre: &Rows,
-    rows: &mut Rows,
-    other: &mut Rows,
-    again: &mut Rows,
-    back: &mut Rows,
-    todo: Todo,
-    x: usize,
-    failed: StateSet,
-) -> Todo
-    requires { Arrays rows.old other.old again.old back.old × (states ≤ most_states) × (x < states) × (failed < 2 ^ states) }
-    ensures { Deleted states pre.now x failed rows.old other.old again.old back.old
-        rows.new other.new again.new back.new todo.here todo.there result.here result.there }
-{
-    rows[x] = state_words::intersection(rows[x], state_words::complement(failed, states));
-    unrelate(other, failed, x);
-    let before = pre[x];
-    let others = image(pre, states, failed);
-    mark(again, before, others);
-    mark(back, others, before);
-    Todo {
-        here: state_words::union(before, todo.here),
-        there: state_words::union(others, todo.there),
-    }
-}
-
-// Looks at row x.
-fn look(
-    succ: &[StateSet],
-    states: usize,
-    inputs: usize,
-    pass: StateSet,
-    fail: StateSet,
-    pre: &Rows,
-    rows: &mut Rows,
-    other: &mut Rows,
-    again: &mut Rows,
-    back: &mut Rows,
-    todo: Todo,
-    x: usize,
-) -> Todo
-    requires { Steps states inputs succ.now × (pre.now ≡ predecessor_rows states inputs succ.now) × Arrays rows.old other.old again.old back.old
-        × (x < states) × T (has todo.here x) }
-    ensures { Looked states inputs succ.now pass fail rows.old other.old again.old back.old
-        rows.new other.new again.new back.new todo.here todo.there result.here result.there }
-{
-    let failed = failing(succ, states, inputs, pass, fail, rows, again[x], x);
-    again[x] = 0;
-    let left = Todo {
-        here: state_words::without(todo.here, x),
-        there: todo.there,
-    };
-    if failed == 0 {
-        return left;
-    }
-    delete(states, pre, rows, other, again, back, left, x, failed)
-}
 
 // The next row to look at from x on, or else from 0 on.
 fn next_row(todo: StateSet, x: usize) -> usize
@@ -89,33 +24,48 @@ fn next_row(todo: StateSet, x: usize) -> usize
     state_words::lowest(later)
 }
 
-// Looks at rows of the relation until none is to be looked at; the converse's wait.
-pub(crate) fn settle(
-    succ: &[StateSet],
-    states: usize,
-    inputs: usize,
-    pass: StateSet,
-    fail: StateSet,
-    pre: &Rows,
-    rows: &mut Rows,
-    other: &mut Rows,
-    again: &mut Rows,
-    back: &mut Rows,
-    todo: Todo,
-) -> Todo
-    requires { Steps states inputs succ.now × (pre.now ≡ predecessor_rows states inputs succ.now) × Arrays rows.old other.old again.old back.old
-        × ((E : ℕ → ℕ → Bool) × (L : ℕ → ℕ → Bool)
-        × Working states inputs succ.now pass fail E L rows.old other.old again.old back.old todo.here todo.there) }
-    ensures { Settled states inputs succ.now pass fail rows.old other.old again.old back.old
-        rows.new other.new again.new back.new todo.here todo.there result.here result.there }
-{
-    let mut left = todo;
-    let mut x: usize = 0;
-    while left.here != 0 {
-        x = next_row(left.here, x);
-        left = look(
-            succ, states, inputs, pass, fail, pre, rows, other, again, back, left, x,
+impl Side {
+    // Takes the pairs of x and the members of `failed` out, and notes the pairs of their predecessors, which `before` has.
+    fn delete(&mut self, other: &mut Side, states: usize, before: &Rows, x: usize, failed: StateSet)
+        requires { (states ≤ most_states) × (x < states) × (failed < 2 ^ states) }
+        ensures { Deleted states before.now x failed self.old other.old self.new other.new }
+    {
+        self.rows[x] = state_words::intersection(
+            self.rows[x],
+            state_words::complement(failed, states),
         );
+        unrelate(&mut other.rows, failed, x);
+        let own = before[x];
+        let others = image(before, states, failed);
+        mark(&mut self.again, own, others);
+        mark(&mut other.again, others, own);
+        self.todo = state_words::union(own, self.todo);
+        other.todo = state_words::union(others, other.todo);
     }
-    left
+
+    // Looks at row x.
+    fn look(&mut self, other: &mut Side, on: Marked<'_>, x: usize)
+        requires { (x < on.table.states) × T (has self.old.todo x) }
+        ensures { Looked (table_of on.entry.table) on.entry.mark self.old other.old self.new other.new }
+    {
+        let failed = failing(on.table, on.mark, &self.rows, self.again[x], x);
+        self.again[x] = 0;
+        self.todo = state_words::without(self.todo, x);
+        if failed == 0 {
+            return;
+        }
+        self.delete(other, on.table.states, on.before, x, failed);
+    }
+
+    // Looks at rows of the relation until none is to be looked at; the converse's wait.
+    pub(crate) fn settle(&mut self, other: &mut Side, on: Marked<'_>)
+        requires { (E : ℕ → ℕ → Bool) × (L : ℕ → ℕ → Bool) × Working (table_of on.table) on.mark E L self.old other.old }
+        ensures { Settled (table_of on.entry.table) on.entry.mark self.old other.old self.new other.new }
+    {
+        let mut x: usize = 0;
+        while self.todo != 0 {
+            x = next_row(self.todo, x);
+            self.look(other, on, x);
+        }
+    }
 }

@@ -10,7 +10,7 @@ use Rattle.meaning.specs.Atoms.{Atom}
 use Rattle.meaning.specs.Nodes.{Node, formula_at}
 use Rattle.meaning.specs.Instrument as meaning
 use Rattle.meaning.specs.Instrument.{table}
-use Rattle.meaning.specs.File.Grammar.{Contents, instrument_of, most_states}
+use Rattle.meaning.specs.File.Grammar.{Contents, instrument_of, limits, most_states}
 use Rattle.meaning.specs.Table.{Table}
 use Rattle.meaning.specs.View.{View}
 use Rattle.meaning.specs.Seen.{view_of}
@@ -21,9 +21,8 @@ use Rattle.meaning.specs.Roots.{rel_all_b}
 use Rattle.meaning.proofs.Basic.Entries.{list_length, list_at}
 use Rattle.meaning.proofs.Basic.Lists.{places_all}
 use Rattle.meaning.proofs.File.Members.{all_at}
-use Rattle.instrument.specs.declared.Instrument.{Instrument}
 use Rattle.instrument.specs.declared.Roots.{Roots}
-use Rattle.instrument.specs.Described.{Describes}
+use Rattle.meaning.specs.File.Promise.{Promised}
 use Rattle.instrument.specs.Roots.{listed_roots}
 use Rattle.instrument.proofs.Rows.{filled_at}
 use Rattle.mark_rules.specs.declared.Mark.{Mark}
@@ -103,7 +102,7 @@ by_formulas t κ ns n e m relations ks h =
     go (r ∷ rs) h x y l k =
         ap₂ (λ a b. a && b) (ap (λ q. rel q x y) h.0 ∙ rel_rows_lem t.states (rel_b t κ (formula_at ns r)) x y (omega (arith, e)) l k) (go rs h.1 x y l k)
 
-module _ {t : Instrument} {k : Contents} (d : Describes t k) {roots : Roots} {needed : ℕ} (u : Needed k roots needed) where
+module _ {k : Contents} (d : Promised limits k) {roots : Roots} {needed : ℕ} (u : Needed k roots needed) where
   abbrev I : meaning.Instrument
   I = instrument_of k
 
@@ -112,7 +111,7 @@ module _ {t : Instrument} {k : Contents} (d : Describes t k) {roots : Roots} {ne
 
   -- the operands of each node under the roots are under them
   pub needed_closed : Closed k.nodes needed
-  needed_closed = rw u.under (under_closed k.nodes d.promised.earlier (listed_roots roots) listed)
+  needed_closed = rw u.under (under_closed k.nodes d.earlier (listed_roots roots) listed)
 
   -- the roots are among the needed nodes
   pub roots_related : (c n : ℕ) (r : List (List ℕ)) → n ≡ (table I c).states → n ≤ most_states
@@ -120,5 +119,5 @@ module _ {t : Instrument} {k : Contents} (d : Describes t k) {roots : Roots} {ne
   roots_related c n r e m h =
       by_formulas (table I c) (view_of I c) k.nodes n e m r (listed_roots roots)
       (places_all (λ q. get_or r q [] ≡ formula_relation (table I c) (view_of I c) (formula_at k.nodes q)) 0 (listed_roots roots) (λ j l. rw h
-      (relation_at_lem (table I c) (view_of I c) k.nodes needed d.promised.node_count.1 (get_or (listed_roots roots) j 0) (all_at (λ q. q < length k.nodes) (listed_roots roots) listed 0 j l)
-      (rw u.under (root_under k.nodes d.promised.earlier (listed_roots roots) listed j l)))))
+      (relation_at_lem (table I c) (view_of I c) k.nodes needed d.node_count.1 (get_or (listed_roots roots) j 0) (all_at (λ q. q < length k.nodes) (listed_roots roots) listed 0 j l)
+      (rw u.under (root_under k.nodes d.earlier (listed_roots roots) listed j l)))))

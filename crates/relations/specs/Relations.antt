@@ -9,7 +9,8 @@ use Rattle.meaning.specs.Nodes as formula
 use Rattle.meaning.specs.Nodes.{formula_at}
 use Rattle.meaning.specs.Table.{Table, from_words}
 use Rattle.meaning.specs.Instrument as meaning
-use Rattle.meaning.specs.Instrument.{table}
+use Rattle.meaning.specs.Instrument.{components, table}
+use Rattle.meaning.specs.File.Promise.{Promised, component_at}
 use Rattle.meaning.specs.File.Grammar.{Contents, instrument_of, limits}
 use Rattle.meaning.specs.View.{View, atoms}
 use Rattle.meaning.specs.Seen.{view_of}
@@ -19,9 +20,10 @@ use Rattle.meaning.specs.Reference.Tests.{all_of}
 use Rattle.meaning.specs.Reference.Answers.{list_below}
 use Rattle.meaning.specs.Reference.Relation.{rel_b}
 use Rattle.instrument.specs.declared.Node.{Node}
-use Rattle.instrument.specs.declared.Instrument.{Instrument}
+use Rattle.instrument.specs.declared.component.Component.{Component}
+use Rattle.instrument.specs.Component.{IsComponent, reading_table}
+use Rattle.instrument.specs.Table.{table_of}
 use Rattle.instrument.specs.ByKind.{kind_has}
-use Rattle.instrument.specs.Described.{Describes}
 use Rattle.mark_rules.specs.declared.Mark.{Mark}
 use Rattle.marks.specs.Formulas.{formula_mark, Sees}
 use Rattle.marks.specs.NodeMarks.{no_mark, mark_rules, Listing, list_marks}
@@ -62,19 +64,22 @@ abbrev pub sorted : Mark → List ℕ → Sorted
 sorted m r = record { mark = m; relation = r }
 
 -- the rules of the constructors
-module _ (states inputs : ℕ) (outputs outs succ compared : List ℕ) where
+module _ (r : Component) (compared : List ℕ) where
+  abbrev states : ℕ
+  states = r.table.states
+
   abbrev marked : Rules Atom Mark
-  marked = mark_rules states inputs outputs outs succ
+  marked = mark_rules r
 
   abbrev atom_relation : Atom → List ℕ
-  atom_relation (on_signal w) = signal_relation states outputs outs w
+  atom_relation (on_signal w) = signal_relation states r.outputs.now r.outs.now w
 
   -- EX, and EG and EU, whose marks are m, from the marks of the first operand and what the operands relate
   abbrev pub ex_sorted : Mark → Mark → List ℕ → Sorted
-  ex_sorted m under r = sorted m (related_ex states inputs succ compared r m.pass m.fail under.fail)
+  ex_sorted m under operand = sorted m (related_ex (table_of r.table) compared operand m under.fail)
 
   abbrev pub fixed_sorted : Mark → List ℕ → Sorted
-  fixed_sorted m r = sorted m (related_fixed states inputs succ compared r m.pass m.fail)
+  fixed_sorted m operands = sorted m (related_fixed (table_of r.table) compared operands m)
 
   abbrev pub relation_rules : Rules Atom Sorted
   relation_rules =
@@ -104,20 +109,19 @@ needed_relation t κ ns needed k = cond (has needed k) (formula_relation t κ (f
 unfoldable pub list_relations : Table → View Atom → List (formula.Node Atom) → ℕ → List (List ℕ)
 list_relations t κ ns needed = sets (replicate limits.nodes no_relation) 0 (list_below (length ns) (needed_relation t κ ns needed))
 
--- the relations of a component at the needed nodes, whichever formula the array lists; inputs are counted, and may be any that many
-abbrev pub RelatedNodes : ℕ → ℕ → List ℕ → List ℕ → List ℕ → List ℕ → List Node → ℕ → List Mark → ℕ → List (List ℕ) → Type 0
-RelatedNodes states inputs outputs outs succ compared nodes count marks needed r =
-    (ins : List ℕ) → length ins ≡ inputs → let t = from_words states ins outputs outs succ in
-    (κ : View Atom) → Sees t κ → Comparing states compared κ → (ns : List (formula.Node Atom)) → Listing nodes count ns → Closed ns needed
+-- the relations of a component at the needed nodes, whichever formula the list has; inputs are counted, and may be any that many
+abbrev pub RelatedNodes : Component → List ℕ → List Node → List Mark → ℕ → List (List ℕ) → Type 0
+RelatedNodes c compared nodes marks needed r =
+    (ins : List ℕ) → length ins ≡ c.table.inputs → let t = reading_table c ins in
+    (κ : View Atom) → Sees t κ → Comparing c.table.states compared κ → (ns : List (formula.Node Atom)) → Listing nodes (length nodes) ns → Closed ns needed
     → Marked t κ ns marks → r ≡ list_relations t κ ns needed
 
 -- how far a loop over the nodes is: the relations of the needed ones among the first k are there
-pub record Relating (states inputs : ℕ) (outputs outs succ compared : List ℕ) (nodes : List Node) (count : ℕ) (marks : List Mark)
-    (needed k : ℕ) (r : List (List ℕ)) : Type 0 where
-  pub reached : k ≤ count
-  pub each : (ins : List ℕ) → length ins ≡ inputs → let t = from_words states ins outputs outs succ in
-      (κ : View Atom) → Sees t κ → Comparing states compared κ → (ns : List (formula.Node Atom)) → Listing nodes count ns → Closed ns needed
-      → Marked t κ ns marks → Written (replicate limits.nodes no_relation) 0 count (λ k. needed_relation t κ ns needed k ∷ []) k r
+pub record Relating (c : Component) (compared : List ℕ) (nodes : List Node) (marks : List Mark) (needed k : ℕ) (r : List (List ℕ)) : Type 0 where
+  pub reached : k ≤ length nodes
+  pub each : (ins : List ℕ) → length ins ≡ c.table.inputs → let t = reading_table c ins in
+      (κ : View Atom) → Sees t κ → Comparing c.table.states compared κ → (ns : List (formula.Node Atom)) → Listing nodes (length nodes) ns → Closed ns needed
+      → Marked t κ ns marks → Written (replicate limits.nodes no_relation) 0 (length nodes) (λ k. needed_relation t κ ns needed k ∷ []) k r
 
 -- related by each of these of the relations: the first so many of a list of their numbers
 abbrev pub related_by : ℕ → List (List ℕ) → List ℕ → List ℕ
@@ -127,9 +131,12 @@ related_by states relations ks = rows states (λ x y. all_of (λ k. rel (get_or 
 abbrev pub roots_relation : meaning.Instrument → ℕ → List ℕ → List ℕ
 roots_relation I c roots = rows (table I c).states (rel_all_b (table I c) (view_of I c) (root_formulas I roots))
 
--- the instrument describes a file's contents, the marks are those of its component c, and these signals are listed as inputs
-pub record MarkedComponent (t : Instrument) (c : ℕ) (marks : List Mark) (read : ℕ) (k : Contents) : Type 0 where
-  pub describes : Describes t k
+-- it is component c of a good file's contents, whose formula the nodes list; the marks are its own, and these signals are listed as inputs
+pub record MarkedComponent (r : Component) (nodes : List Node) (marks : List Mark) (read : ℕ) (k : Contents) (c : ℕ) : Type 0 where
+  pub promised : Promised limits k
+  pub here : c < components (instrument_of k)
+  pub is : IsComponent (component_at k c) r
+  pub listing : Listing nodes (length nodes) k.nodes
   pub signals : ReadSignals k read
   pub marked : marks ≡ list_marks (table (instrument_of k) c) (view_of (instrument_of k) c) k.nodes
 

@@ -1,5 +1,3 @@
 -- bounds of both sizes, and the listing from the arrays of an instrument
 pub mod Sizes
 pub mod Listings
--- a text copied byte by byte
-pub mod Copies

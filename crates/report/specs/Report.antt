@@ -1,12 +1,10 @@
 -- What the listing is made from (document 01, Verdict and listing).
-use Rattle.std.specs.Prelude.{◌≡◌, List, length, get_or, ℕ, ◌≤◌}
+use Rattle.std.specs.Prelude.{◌≡◌, List, ℕ}
 use Rattle.meaning.specs.File.Grammar.{Contents, instrument_of}
-use Rattle.meaning.specs.Reference.Answers.{list_below, full_count, merged_size}
+use Rattle.meaning.specs.Reference.Answers.{full_count, merged_size}
 use Rattle.instrument.specs.declared.Instrument.{Instrument}
 use Rattle.instrument.specs.Described.{Describes}
 use Rattle.partitions.specs.Classes.{root_classes_of}
-use Rattle.text.specs.declared.Text.{Text}
-use Rattle.text.specs.Texts.{text_of}
 
 -- the instrument describes a file's contents; the names of its classes and both sizes are those of document 01
 pub record Listed (t : Instrument) (names : List (List ℕ)) (size full : ℕ) (k : Contents) : Type 0 where
@@ -14,12 +12,3 @@ pub record Listed (t : Instrument) (names : List (List ℕ)) (size full : ℕ) (
   pub named : names ≡ root_classes_of (instrument_of k)
   pub merged_is : size ≡ merged_size (instrument_of k)
   pub full_is : full ≡ full_count (instrument_of k)
-
--- the bytes of a text
-abbrev pub bytes_in : Text → List ℕ
-bytes_in text = list_below text.count (λ x. get_or text.bytes x 0)
-
--- the text is these bytes, and they fit in it
-pub record Spelled (text : Text) (l : List ℕ) : Type 0 where
-  pub same : text ≡ text_of l
-  pub short : length l ≤ 2048

@@ -7,28 +7,22 @@ ghost use Rattle.meaning.specs.Reference.Answers.{merged_words};
 ghost use Rattle.answers.specs.Buffers.{entries, lent_after};
 ghost use Rattle.answers.specs.Outcomes.{looked_up};
 ghost use Rattle.instrument.specs.Outline.{whole};
+ghost use Rattle.instrument.specs.Delivered.{delivered};
 ghost use Rattle.merging.specs.Parts.{OfComponents};
 ghost use Rattle.root_words.specs.LastNode.{RootPrepared, RootReady, RootRoom};
 
 use class_names::AllNames;
-use instrument::{Instrument, Outline, Roots};
+use instrument::{Delivery, Instrument, Outline, Roots};
 use marks::AllMarks;
 use merged_words::{bit_at, write_merged};
-use state_words::StateSet;
 
 // A word for every merged state, in the order of indices: bit k the truth of node k if that is the root or stands under it.
-pub fn write_root_words(
-    t: Outline,
-    nexts: &[StateSet],
-    marks: AllMarks,
-    names: AllNames,
-    out: &mut [u32],
-)
-    requires { RootRoom (whole t nexts.now) marks names out.old }
-    ensures { (k : Contents) → RootPrepared (whole t nexts.now) marks names k → out.new ≡ lent_after (entries (merged_words (instrument_of k))) out.old }
+pub fn write_root_words(t: Delivery<'_>, marks: AllMarks, names: AllNames, out: &mut [u32])
+    requires { RootRoom (delivered t) marks names out.old }
+    ensures { (k : Contents) → RootPrepared (delivered t.entry) marks names k → out.new ≡ lent_after (entries (merged_words (instrument_of k))) out.old }
 {
-    let root = Roots::one(t.nodecount - 1);
-    write_merged(t, nexts, marks, names, root, out);
+    let root = Roots::one(t.outline.nodecount - 1);
+    write_merged(t, marks, names, root, out);
 }
 
 // The answer for the combined state of these states.

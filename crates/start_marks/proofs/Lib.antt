@@ -1,3 +1,6 @@
+-- arrays made by a closure, and tests of a range
+pub mod Made
+pub mod Ranged
 -- the states of a start
 pub mod States
 -- the starts by marks

@@ -1,17 +1,17 @@
 // What the marks at the root say of all starts (document 01, Verdict and listing).
 #![tactic(auto)]
 
-ghost use Rattle.std.specs.Prelude.{◌≡◌, List, ℕ, ◌+◌, ◌*◌, ◌≤◌, ◌<◌, length};
-ghost use Rattle.meaning.specs.File.Grammar.{Contents, instrument_of, limits};
+ghost use Rattle.std.specs.Prelude.{◌≡◌, List, ℕ, ◌+◌, ◌*◌, ◌≤◌, length};
+ghost use Rattle.meaning.specs.File.Grammar.{Contents, instrument_of};
 ghost use Rattle.meaning.specs.Tests.{any_below};
 ghost use Rattle.instrument.specs.Outline.{whole};
 ghost use Rattle.partitions.specs.Classes.{MarkedInstrument};
-ghost use Rattle.start_marks.specs.Starts.{chosen_set, root_sets, start_states, SmallStates, in_set, tally_of};
+ghost use Rattle.start_marks.specs.Starts.{start_states, SmallStates, in_set, tally_of};
 
 use instrument::{Instrument, Outline};
-use mark_rules::Mark;
 use marks::AllMarks;
 use state_words::StateSet;
+use std::array;
 
 // Whether some start has a FAIL state, and whether every start has a PASS state.
 #[derive(Drop)]
@@ -20,45 +20,13 @@ pub struct Tally {
     pub passing: bool,
 }
 
-// PASS, or else FAIL.
-fn chosen(mark: Mark, pass: bool) -> StateSet
-    ensures { result ≡ chosen_set mark pass }
-{
-    if pass {
-        return mark.pass;
-    }
-    mark.fail
-}
-
-// The set of each component at the root.
-fn root_sets(marks: AllMarks, root: usize, pass: bool) -> [StateSet; Instrument::MAX_COMPONENTS]
-    requires { root < limits.nodes }
-    ensures { result ≡ root_sets marks root pass }
-{
-    let first = marks[0][root];
-    let second = marks[1][root];
-    let third = marks[2][root];
-    let fourth = marks[3][root];
-    [
-        chosen(first, pass),
-        chosen(second, pass),
-        chosen(third, pass),
-        chosen(fourth, pass),
-    ]
-}
-
 // The states of start j, 0 past the last component.
 pub fn start_states(starts: &[u32], j: usize) -> [usize; Instrument::MAX_COMPONENTS]
     requires { 4 * j + 4 ≤ length starts.now }
     ensures { result ≡ start_states starts.now j }
 {
     let first = Instrument::MAX_COMPONENTS * j;
-    [
-        starts[first] as usize,
-        starts[first + 1] as usize,
-        starts[first + 2] as usize,
-        starts[first + 3] as usize,
-    ]
+    array::from_fn(|c| starts[first + c] as usize)
 }
 
 // Whether some of the first n states is in its component's set.
@@ -70,14 +38,7 @@ fn start_marked(
     requires { (n ≤ 4) × SmallStates n states }
     ensures { result ≡ any_below n (in_set sets states) }
 {
-    let mut c: usize = 0;
-    while c < n {
-        if state_words::member(sets[c], states[c]) {
-            return true;
-        }
-        c += 1;
-    }
-    false
+    (0..n).any(|c| state_words::member(sets[c], states[c]))
 }
 
 // What the marks at the root say of all starts.
@@ -85,22 +46,16 @@ pub fn tally_starts(t: Outline, marks: AllMarks) -> Tally
     requires { (nexts : List ℕ) × (k : Contents) × MarkedInstrument (whole t nexts) marks k }
     ensures { (nexts : List ℕ) (k : Contents) → MarkedInstrument (whole t nexts) marks k → result ≡ tally_of (instrument_of k) }
 {
-    let mut failing = false;
-    let mut passing = true;
-    let starts = t.starts;
     let n = t.components as usize;
     let root = t.nodecount as usize - 1;
-    let passes = root_sets(marks, root, true);
-    let fails = root_sets(marks, root, false);
-    let count = t.startcount as usize;
-    let mut j: usize = 0;
-    while j < count {
-        let states = start_states(&starts, j);
-        let pass = start_marked(passes, states, n);
-        let fail = start_marked(fails, states, n);
-        failing = fail | failing;
-        passing = pass & passing;
-        j += 1;
+    let passes = array::from_fn(|c| marks[c][root].pass);
+    let fails = array::from_fn(|c| marks[c][root].fail);
+    let mut failing = false;
+    let mut passing = true;
+    for j in 0..t.startcount as usize {
+        let states = start_states(&t.starts, j);
+        failing |= start_marked(fails, states, n);
+        passing &= start_marked(passes, states, n);
     }
     Tally { failing, passing }
 }

@@ -5,18 +5,9 @@ ghost use Rattle.std.specs.Prelude.{◌≡◌, ◌≢◌, []};
 ghost use Rattle.meaning.specs.File.Stretches.{located};
 ghost use Rattle.answers.specs.Outcomes.{component_bytes_of};
 ghost use Rattle.answers.specs.Means.{HasComponent, StretchMeans};
-ghost use Rattle.reader.specs.Outcomes.{fault_number};
-ghost use Rattle.stretch_query.specs.Components.{asked_number};
+ghost use Rattle.reader.specs.Outcomes.{outcome_number, fault_number};
 
 use cursor::Refusal;
-use reader::Outcome;
-
-// Whether a question is answered, or why it is refused.
-#[derive(Drop)]
-pub enum Asked {
-    Fine,
-    Refused(Refusal),
-}
 
 // The part of the file that is the component's own, from its state count to its last successor set; empty exactly where component_refusal
 // refuses the question.
@@ -25,20 +16,16 @@ pub fn component_bytes(file: &[u8], component: u32) -> &[u8]
     ensures meaning { result.now ≢ [] → StretchMeans file.now component result.now }
     ensures answered { HasComponent file.now component → result.now ≢ [] }
 {
-    let place = reader::locate(file, component);
-    let start = place.start;
-    let end = place.end;
-    &file[start..end]
+    match reader::locate(file, component) {
+        Ok(place) => &file[place],
+        Err(_) => &[],
+    }
 }
 
-// The number that goes with component_bytes: the first fault of the file, then 3 if there is no such component.
-pub fn component_refusal(file: &[u8], component: u32) -> Asked
-    ensures answer { asked_number result ≡ fault_number (located file.now component) }
+// Whether the question is answered, with the number that goes with component_bytes: the first fault of the file, then 3 if there is no such component.
+pub fn component_refusal(file: &[u8], component: u32) -> Result<(), Refusal>
+    ensures answer { outcome_number result ≡ fault_number (located file.now component) }
 {
-    let place = reader::locate(file, component);
-    let outcome = place.outcome;
-    match outcome {
-        Outcome::Accepted => Asked::Fine,
-        Outcome::Refused(cause) => Asked::Refused(cause),
-    }
+    reader::locate(file, component)?;
+    Ok(())
 }

@@ -36,10 +36,8 @@ fn root_set(roots: Roots) -> u32
     ensures { result ≡ with_all 0 (listed_roots roots) }
 {
     let mut set: u32 = 0;
-    let mut j: usize = 0;
-    while j < roots.count {
-        set = words::insert(set, roots.nodes[j]);
-        j += 1;
+    for root in &roots.nodes[..roots.count] {
+        set = words::insert(set, *root);
     }
     set
 }
@@ -49,13 +47,10 @@ pub fn under_roots(nodes: [Node; Instrument::MAX_NODES], count: u32, roots: Root
     requires { GoodRoots count roots × ((ns : List (formula.Node Atom)) × Listing nodes count ns) }
     ensures { (ns : List (formula.Node Atom)) → Listing nodes count ns → result ≡ under_roots ns (listed_roots roots) }
 {
-    let mut k = count;
     let mut set = root_set(roots);
-    while k > 0 {
-        k -= 1;
-        let node = nodes[k as usize];
+    for k in (0..count).rev() {
         if words::member(set, k) {
-            set = with_operands(set, node);
+            set = with_operands(set, nodes[k as usize]);
         }
     }
     set

@@ -1,17 +1,7 @@
--- A text by value, and bytes put into a buffer.
-use Rattle.std.specs.Prelude.{◌≡◌, List, length, replicate, ℕ, ◌+◌, ◌≤◌}
-use Rattle.std.proofs.lemmas.List.Edits.{sets}
-use Rattle.text.specs.declared.Text.{Text}
+-- Bytes put behind those that a vector has.
+use Rattle.std.specs.Prelude.{List, length, ℕ, ◌+◌, ◌≤◌}
+use Rattle.arrayvec.specs.ArrayVec.{ArrayVec, array_vec_len}
 
--- these bytes, and 0 after them
-unfoldable pub text_of : List ℕ → Text
-text_of l = record { bytes = sets (replicate 2048 0) 0 l; count = length l }
-
--- a buffer has room for these bytes from a place on
-pub record Room (l : List ℕ) (at : ℕ) (out : List ℕ) : Type 0 where
-  pub fits : at + length l ≤ length out
-
--- these bytes were put into a buffer from a place on, and the result is the place after them
-pub record Put (l : List ℕ) (at result : ℕ) (old new : List ℕ) : Type 0 where
-  pub after : result ≡ at + length l
-  pub buffer : new ≡ sets old at l
+-- a vector of so much capacity has room for these bytes too
+abbrev pub Room : List ℕ → ℕ → ArrayVec ℕ → Type 0
+Room l cap out = array_vec_len out + length l ≤ cap

@@ -1,74 +1,45 @@
-// Text put piece by piece into a lent buffer, and a text by value: bytes and how many of them there are.
+// Text put piece by piece into a vector of bytes that has a fixed capacity: a byte, a word, a number in decimal digits.
 #![tactic(auto)]
 
-ghost use Rattle.std.specs.Prelude.{◌≡◌, [], ◌∷◌, ◌+◌, ◌≤◌, length};
-ghost use Rattle.answers.specs.Listing.{decimal, digits_of, most_digits};
-ghost use Rattle.text.specs.Texts.{Put, Room, text_of};
+ghost use Rattle.std.specs.Prelude.{◌≡◌, [], ◌∷◌, ◌≤◌, length};
+ghost use Rattle.arrayvec.specs.ArrayVec.{Extends};
+ghost use Rattle.answers.specs.Listing.{decimal};
+ghost use Rattle.text.specs.Texts.{Room};
 
-// The first `count` bytes are the text; the others are 0.
-#[derive(Drop)]
-pub struct Text {
-    pub bytes: [u8; 2048],
-    pub count: usize,
-}
+use arrayvec::ArrayVec;
+use itoa::Buffer;
 
-impl Text {
-    // The bytes of a word alone.
-    pub fn of_word(w: &[u8]) -> Self
-        requires { length w.now ≤ 2048 }
-        ensures { result ≡ text_of w.now }
-    {
-        let mut bytes = [0u8; 2048];
-        let count = word(w, &mut bytes, 0);
-        Text { bytes, count }
-    }
-}
+// A text by value: the listing, or one line.
+pub type Text = ArrayVec<u8, 2048>;
 
-// A number of 64 bits has at most so many digits.
-const MOST_DIGITS: u32 = 20;
-
-// One byte at a place of the buffer; the place after it.
-pub fn byte(b: u8, out: &mut [u8], at: usize) -> usize
-    requires { at + 1 ≤ length out.old }
-    ensures { Put (b ∷ []) at result out.old out.new }
+// The bytes of a word alone.
+pub fn of_word(w: &[u8]) -> Text
+    requires { length w.now ≤ 2048 }
+    ensures { result.items ≡ w.now }
 {
-    out[at] = b;
-    at + 1
+    Text::try_from(w).unwrap()
+}
+
+// One byte.
+pub fn byte<const CAP: usize>(b: u8, out: &mut ArrayVec<u8, CAP>)
+    requires { Room (b ∷ []) CAP out.old }
+    ensures { Extends out.old (b ∷ []) out.new }
+{
+    out.push(b);
 }
 
 // The bytes of a word.
-pub fn word(w: &[u8], out: &mut [u8], at: usize) -> usize
-    requires { at + length w.now ≤ length out.old }
-    ensures { Put w.now at result out.old out.new }
+pub fn word<const CAP: usize>(w: &[u8], out: &mut ArrayVec<u8, CAP>)
+    requires { Room w.now CAP out.old }
+    ensures { Extends out.old w.now out.new }
 {
-    let mut i: usize = 0;
-    while i < w.len() {
-        out[at + i] = w[i];
-        i += 1;
-    }
-    at + i
+    out.try_extend_from_slice(w).unwrap();
 }
 
 // A number in decimal digits.
-pub fn decimal(v: u64, out: &mut [u8], at: usize) -> usize
-    requires { Room (decimal v) at out.old }
-    ensures { Put (decimal v) at result out.old out.new }
+pub fn decimal<const CAP: usize>(v: u64, out: &mut ArrayVec<u8, CAP>)
+    requires { Room (decimal v) CAP out.old }
+    ensures { Extends out.old (decimal v) out.new }
 {
-    digits(MOST_DIGITS, v, out, at)
-}
-
-// The digits of v, at most so many places.
-fn digits(places: u32, v: u64, out: &mut [u8], at: usize) -> usize
-    requires { (places ≤ most_digits) × Room (digits_of places v) at out.old }
-    ensures { Put (digits_of places v) at result out.old out.new }
-{
-    if places == 0 {
-        return at;
-    }
-    let d = (48 + v % 10) as u8;
-    if v < 10 {
-        return byte(d, out, at);
-    }
-    let high = digits(places - 1, v / 10, out, at);
-    byte(d, out, high)
+    word(Buffer::new().format(v).as_bytes(), out);
 }

@@ -17,8 +17,7 @@ use Rattle.meaning.proofs.Basic.Bounded.{all_out}
 use Rattle.meaning.proofs.File.Accepted.{file_accepted}
 use Rattle.cursor.specs.Answers.{number}
 use Rattle.cursor.specs.declared.Refusal.{Refusal}
-use Rattle.parsing.specs.declared.Outcome as told
-use Rattle.parsing.specs.declared.Outcome.TheVariants as outcomes
+use Rattle.instrument.specs.declared.Outline.{Outline}
 use Rattle.reader.specs.Outcomes.{Tells, Found}
 use Rattle.instrument.specs.declared.Instrument as code
 use Rattle.instrument.specs.Described.{Describes}
@@ -26,9 +25,11 @@ use Rattle.instrument.proofs.Bounds.{count_bounds}
 use Rattle.instrument.proofs.Tables.{table_count, table_states}
 use Rattle.merging.specs.Parts.{OfComponents}
 use Rattle.merged_words.proofs.Lookup.{states_listed}
-use Rattle.listing_lines.specs.Lines.{judgement_from}
+use Rattle.judgement.specs.declared.Judgement as code_judgement
+use Rattle.judgement.specs.Judged.{judgement_of}
 use Rattle.verdict.specs.Answers.{answer_of}
-use Rattle.verdict.specs.declared.Verdict.TheVariants as judge
+use Rattle.verdict.specs.declared.Oversized.{Oversized}
+use Rattle.std.specs.Prelude.{Ok, Err}
 use Rattle.answers.specs.Outcomes.{Reply, given, denied, reply_after, asks_state, looked_up, lookup_of, Judgement, judgement, verdict_of}
 use Rattle.answers.specs.Means.{Holds, LookupMeans, VerdictMeans}
 use Rattle.answers.proofs.Starts.{lookup_means, verdict_means}
@@ -36,10 +37,9 @@ use Rattle.entry_queries.proofs.Answering.{refused_fault}
 
 -- a refused file, and an accepted one
 module _ {X : Type 0} (f : Instrument → Reply X) where
-  pub reply_refused : (file : List ℕ) (o : told.Outcome) (cause : Refusal) → o ≡ outcomes.Refused cause → Tells o (read_file file)
+  pub reply_refused : (file : List ℕ) (cause : Refusal) → Tells {A = Outline} (Err cause) (read_file file)
       → denied (number cause) ≡ reply_after (read_file file) f
-  reply_refused file o cause e h =
-      sym (ap (λ g. reply_after g f) (refused_fault (read_file file) cause (subst (λ o. Tells o (read_file file)) e h)))
+  reply_refused file cause h = sym (ap (λ g. reply_after g f) (refused_fault (read_file file) cause h))
 
   pub reply_found : {file : List ℕ} {t : code.Instrument} (h : Found file t) {r : Reply X} → r ≡ f (instrument_of h.contents) → r ≡ reply_after (read_file file) f
   reply_found h e = e ∙ sym (ap (λ g. reply_after g f) h.read)
@@ -125,13 +125,11 @@ lookup_holds {file} {t} h s b e =
     }
 
 -- the verdict's cases
-pub by_marks_lem : (h : Bool) → given (judgement_from h true) ≡ judgement (answer_of (judge.Marks h))
-by_marks_lem true = refl
-by_marks_lem false = refl
+pub judged_is : (j : code_judgement.Judgement) → given (judgement_of j) ≡ judgement (answer_of (Ok j))
+judged_is j = refl
 
-pub by_merging : (h : Bool) → given (judgement_from h false) ≡ judgement (answer_of (judge.Merged h))
-by_merging true = refl
-by_merging false = refl
+pub oversized_is : (o : Oversized) → denied 12 ≡ judgement (answer_of (Err o))
+oversized_is o = refl
 
 judged_answer : (a : Answer) (j : Judgement) → judgement a ≡ given j → a ≡ Answer.judged j.verdict j.stage
 judged_answer (Answer.judged v g) j e = let q = given_same e in ap (λ j. Answer.judged j.verdict j.stage) q

@@ -1,18 +1,18 @@
 -- The answers to the lookup and the verdict, in document 01's words.
-use Rattle.std.specs.Prelude.{Bool, true, false}
+use Rattle.std.specs.Prelude.{Bool, Result, Ok, Err}
 use Rattle.cursor.specs.Answers.{number}
-use Rattle.answers.specs.Outcomes.{Reply, given, denied, Judgement}
-use Rattle.listing_lines.specs.Lines.{judgement_from}
-use Rattle.value_queries.specs.declared.Looked as looked
-use Rattle.value_queries.specs.declared.Judged as judged
+use Rattle.cursor.specs.declared.Refusal.{Refusal}
+use Rattle.answers.specs.Outcomes as answers
+use Rattle.answers.specs.Outcomes.{Reply, given, denied}
+use Rattle.judgement.specs.declared.Judgement.{Judgement}
+use Rattle.judgement.specs.Judged.{judgement_of}
 
 -- the root's truth, or the refusal's number
-abbrev pub looked_reply : looked.Looked → Reply Bool
-looked_reply (looked.TheVariants.Root b) = given b
-looked_reply (looked.TheVariants.Refused r) = denied (number r)
+abbrev pub looked_reply : Result Bool Refusal → Reply Bool
+looked_reply (Ok b) = given b
+looked_reply (Err r) = denied (number r)
 
 -- the verdict with its stage, or the refusal's number
-abbrev pub judged_reply : judged.Judged → Reply Judgement
-judged_reply (judged.TheVariants.Marks h) = given (judgement_from h true)
-judged_reply (judged.TheVariants.Merged h) = given (judgement_from h false)
-judged_reply (judged.TheVariants.Refused r) = denied (number r)
+abbrev pub judged_reply : Result Judgement Refusal → Reply answers.Judgement
+judged_reply (Ok j) = given (judgement_of j)
+judged_reply (Err r) = denied (number r)

@@ -1,27 +1,24 @@
 -- What each answer of the code is in document 01's words (Verdict and listing; Refused, number 12).
-use Rattle.std.specs.Prelude.{true, false, leb}
+use Rattle.std.specs.Prelude.{false, leb, Option, Some, None, Result, Ok, Err}
 use Rattle.meaning.specs.Instrument.{Instrument}
 use Rattle.meaning.specs.Reference.Answers.{merged_size}
 use Rattle.meaning.specs.Reference.Tests.{all_of}
 use Rattle.meaning.specs.Reference.Verdict.{staged}
 use Rattle.answers.specs.Outcomes.{looked_up, most_combined}
-use Rattle.meaning.specs.Verdict.{Answer, judged, oversized, holds, fails, marks, merged}
-use Rattle.verdict.specs.declared.Verdict.{Verdict}
-use Rattle.verdict.specs.declared.Told as told
-use Rattle.verdict.specs.declared.Verdict.TheVariants.{Marks, Merged, Oversized}
+use Rattle.meaning.specs.Verdict.{Answer, judged, oversized}
+use Rattle.judgement.specs.declared.Judgement.{Judgement}
+use Rattle.judgement.specs.Judged.{verdict_of, stage_of}
+use Rattle.verdict.specs.declared.Oversized.{Oversized}
 
 -- by marks or by merged words: holds, or fails; 12
-abbrev pub answer_of : Verdict → Answer
-answer_of (Marks true) = judged holds marks
-answer_of (Marks false) = judged fails marks
-answer_of (Merged true) = judged holds merged
-answer_of (Merged false) = judged fails merged
-answer_of Oversized = oversized
+abbrev pub answer_of : Result Judgement Oversized → Answer
+answer_of (Ok j) = judged (verdict_of j.holds) (stage_of j.stage)
+answer_of (Err o) = oversized
 
 -- what the marks tell, or else another answer
-abbrev pub or_else : told.Told → Answer → Answer
-or_else (told.TheVariants.Verdict v) a = answer_of v
-or_else told.TheVariants.Nothing a = a
+abbrev pub or_else : Option Judgement → Answer → Answer
+or_else (Some j) a = answer_of (Ok j)
+or_else None a = a
 
 -- the answer where marks do not decide: 12, or whether every start is answered with true in the merged words
 abbrev pub merged_stage : Instrument → Answer

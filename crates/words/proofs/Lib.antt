@@ -4,5 +4,6 @@ pub mod Built
 pub mod Counts
 pub mod Fewer
 pub mod Passing
+pub mod Filtered
 pub mod Rows
 pub mod First

@@ -56,6 +56,10 @@ module _ (k : ℕ) {w rest : ℕ} {P : ℕ → Type 0} (h : Passing w rest P) (f
             ]
         on t (inr p) = inr (m t p)
 
+-- taking the lowest out leaves less
+pub taken_less : (k : ℕ) {w left : ℕ} → w < 2 ^ k → w ≢ 0 → left ≡ without k w (lowest k w) → left < w
+taken_less k {w} f n e = passing_less k (passing_start w (λ t. Unit {0})) f n e
+
 pub passing_end : {w : ℕ} {P : ℕ → Type 0} → Passing w 0 P → (t : ℕ) → T (has w t) → P t
 passing_end {P = P} h t i = on (h.passed t i)
   where

@@ -1,58 +1,64 @@
-// Sets of signals and of nodes as words of 32 bits: t is in the set w where bit t of w is 1. Each contract equates the result with a definition of
-// specs/Sets.antt; what that definition means for membership is proved once, for every width, in proofs/Members.antt.
+// Sets of small numbers as words, whatever their width: t is in the set w where bit t of w is 1. Each contract equates the result with a definition
+// of specs/Sets.antt; what that definition means for membership is proved once, for every width, in proofs/Members.antt.
 #![tactic(auto)]
 
 ghost use Rattle.std.specs.Prelude.{◌≡◌, ◌≤◌, ◌<◌, length};
 ghost use Rattle.words.specs.Sets as sets;
 ghost use Rattle.words.specs.First.{First, zeros};
 
+mod word; // word.rt: the words
+
+pub use word::Word;
+
 // Whether t is in w.
-pub fn member(w: u32, t: u32) -> bool
-    requires { t < 32 }
-    ensures { result ≡ sets.has w t }
+pub fn member<W: Word>(w: W, t: W::Place) -> bool
+    requires { W.place t < W.width }
+    ensures { result ≡ sets.has (W.number w) (W.place t) }
 {
-    (w >> t) % 2 == 1
+    (w.wide() >> W::at(t)) % 2 == 1
 }
 
 // w and t besides.
-pub fn insert(w: u32, t: u32) -> u32
-    requires { t < 32 }
-    ensures { result ≡ sets.insert w t }
+pub fn insert<W: Word>(w: W, t: W::Place) -> W
+    requires { W.place t < W.width }
+    ensures { W.number result ≡ sets.insert (W.number w) (W.place t) }
 {
-    w | (1u32 << t)
+    W::narrow(w.wide() | (1u64 << W::at(t)))
 }
 
 // What is in a or in b.
-pub fn union(a: u32, b: u32) -> u32
-    ensures { result ≡ sets.union a b }
+pub fn union<W: Word>(a: W, b: W) -> W
+    ensures { W.number result ≡ sets.union (W.number a) (W.number b) }
 {
-    a | b
+    W::narrow(a.wide() | b.wide())
 }
 
 // What is in a and in b.
-pub fn intersection(a: u32, b: u32) -> u32
-    ensures { result ≡ sets.intersection a b }
+pub fn intersection<W: Word>(a: W, b: W) -> W
+    ensures { W.number result ≡ sets.intersection (W.number a) (W.number b) }
 {
-    a & b
+    W::narrow(a.wide() & b.wide())
 }
 
 // What is below s.
-pub fn below(s: u32) -> u32
-    requires { s ≤ 32 }
-    ensures { result ≡ sets.below s }
+pub fn below<W: Word>(s: W::Place) -> W
+    requires { W.place s ≤ W.width }
+    ensures { W.number result ≡ sets.below (W.place s) }
 {
-    if s == 32 {
-        return 4294967295;
+    let n = W::at(s);
+    if n == 64 {
+        return W::narrow(u64::MAX);
     }
-    (1u32 << s) - 1
+    W::narrow((1u64 << n) - 1)
 }
 
 // What is below s and not in w.
-pub fn complement(w: u32, s: u32) -> u32
-    requires { s ≤ 32 }
-    ensures { result ≡ sets.complement s w }
+pub fn complement<W: Word>(w: W, s: W::Place) -> W
+    requires { W.place s ≤ W.width }
+    ensures { W.number result ≡ sets.complement (W.place s) (W.number w) }
 {
-    below(s) & !w
+    let all: W = below(s);
+    W::narrow(all.wide() & !w.wide())
 }
 
 // Sets the first n words of an array to 0.
@@ -60,9 +66,5 @@ pub fn clear(words: &mut [u32], n: usize)
     requires { n ≤ length words.old }
     ensures { First n zeros words.old words.new }
 {
-    let mut k: usize = 0;
-    while k < n {
-        words[k] = 0;
-        k += 1;
-    }
+    words[..n].fill(0);
 }

@@ -1,4 +1,3 @@
-use Rattle.std.proofs.Common.{◌-◌}
 use Rattle.meaning.specs.Reference.Tests.{lowest}
 use Rattle.loops.specs.Written.{Filling}
 use Rattle.classes.specs.Rows.{rel}
@@ -6,6 +5,3 @@ use Rattle.class_names.proofs.class_names.Given as goal
 
 abbrev pub invariant-loop-x : goal.invariant-loop-x
 invariant-loop-x l = Filling l.initial.result 0 l.states (λ x. lowest l.states (rel l.r x)) l.x l.result
-
-abbrev pub decreases-loop-x : goal.decreases-loop-x
-decreases-loop-x l = l.states - l.x

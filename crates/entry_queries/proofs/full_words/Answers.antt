@@ -1,31 +1,39 @@
-use Rattle.std.proofs.Common.{refl, length, arith}
+use Rattle.std.proofs.Common.{length, arith}
+use Rattle.std.proofs.lemmas.Result.{err_from_is_err_and}
 use Rattle.meaning.specs.File.Grammar.{instrument_of}
 use Rattle.meaning.specs.Reference.Answers.{full_count, full_words}
 use Rattle.answers.specs.Buffers.{fitting}
 use Rattle.answers.specs.Outcomes.{full_outcome, within}
 use Rattle.answers.specs.Means.{FullMeans}
 use Rattle.answers.proofs.Means.{full_means}
-use Rattle.entry_queries.proofs.Answering.{refused_both, file_answered, within_entries, means}
+use Rattle.entry_queries.proofs.Answering.{number_some, refused_answered, file_answered, within_entries, means}
 use Rattle.entry_queries.proofs.full_words.Goals as goal
 
-pub read-reading-requires : goal.read-reading-requires
-read-reading-requires c = refl
+pub invariant_of-t : goal.invariant_of-t
+invariant_of-t c = let h = c.in_ok-outline.ensures.found in record { described = (h.contents, h.describes) }
 
-pub write_full-requires : goal.write_full-requires
-write_full-requires c =
-    let h = c.read-reading.ensures.found c.in-Accepted.is in
-    (h.contents, h.describes)
-
-pub returns-in-Refused : goal.returns-in-Refused
+pub returns-in_err-outline-clause-answer : goal.returns-in_err-outline-clause-answer
 unfolding full_outcome
-returns-in-Refused c =
-    let both = refused_both (λ I. within (full_count I) 11 (fitting (length c.args.out.now) (full_words I))) c.args.file.now c.args.out.now c.read-reading.result.outcome c.in-Refused.cause c.in-Refused.is c.read-reading.ensures.tells in
-    record { answer = both.0; meaning = both.1 }
+returns-in_err-outline-clause-answer c =
+    let p = err_from_is_err_and c.from_residual.result c.from_residual.ensures.1 in
+    rw (p.1, p.2)
+    (refused_answered (λ I. within (full_count I) 11 (fitting (length c.args.out.now) (full_words I))) c.args.file.now c.args.out.now _
+    c.in_err-outline.ensures.tells)
 
-pub returns-in-Accepted : goal.returns-in-Accepted
+pub returns-in_err-outline-clause-meaning : goal.returns-in_err-outline-clause-meaning
+returns-in_err-outline-clause-meaning c =
+    let p = err_from_is_err_and c.from_residual.result c.from_residual.ensures.1 in
+    rw (p.1, p.2) (λ z. absurd (number_some _ z))
+
+pub returns-clause-answer : goal.returns-clause-answer
 unfolding full_outcome
-returns-in-Accepted c =
+returns-clause-answer c =
+    let h = c.in_ok-outline.ensures.found in
+    file_answered (λ I. within (full_count I) 11 (fitting (length c.args.out.now) (full_words I))) h (c.write_full.ensures h.contents h.describes)
+
+pub returns-clause-meaning : goal.returns-clause-meaning
+returns-clause-meaning c z =
     let old = c.args.out.now in
-    let h = c.read-reading.ensures.found c.in-Accepted.is in
+    let h = c.in_ok-outline.ensures.found in
     let I = instrument_of h.contents in
-    let answered = c.write_full.ensures h.contents h.describes in record { answer = file_answered (λ I. within (full_count I) 11 (fitting (length old) (full_words I))) h answered; meaning = λ z. means FullMeans full_words full_means h old _ (within_entries (full_words I) (length old) (full_count I) 11 (omega arith) answered z) }
+    means FullMeans full_words full_means h old _ (within_entries (full_words I) (length old) (full_count I) 11 (omega arith) (c.write_full.ensures h.contents h.describes) z)

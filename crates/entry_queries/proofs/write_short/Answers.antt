@@ -21,11 +21,11 @@ counted {t} {marks} {names} {k} p e = e ∙ root_named t k p.describes names p.n
 
 pub root_classes-names-requires : goal.root_classes-names-requires
 root_classes-names-requires c =
-    let (k, d) = c.requires in
+    let (k, d) = c.args.t.described in
     (k, record { describes = d; marked = c.all_marks-marks.ensures k d })
 
 pub merged_count-merged-requires : goal.merged_count-merged-requires
-merged_count-merged-requires c = let (k, d) = c.requires in (_, k, d)
+merged_count-merged-requires c = let (k, d) = c.args.t.described in (c.args.t.nexts.now, k, d)
 
 pub returns-then-merged-gt4096 : goal.returns-then-merged-gt4096
 returns-then-merged-gt4096 c =
@@ -45,7 +45,7 @@ returns-then-out-merged c =
 
 pub write_root_words-requires : goal.write_root_words-requires
 write_root_words-requires c =
-    let (k, d) = c.requires in
+    let (k, d) = c.args.t.described in
     let p = own_prepared c.all_marks-marks.ensures c.root_classes-names.ensures k d in
     let n = counted p (c.merged_count-merged.ensures _ k d) in
     record {

@@ -1,10 +1,11 @@
-use Rattle.text.proofs.Texts.{room_same}
-use Rattle.listing_lines.proofs.Parts.{refusal_is, refusal_parts}
+use Rattle.std.proofs.Common.{rules}
+use Rattle.answers.specs.Listing.{refusal_line_of}
 use Rattle.listing_lines.proofs.refusal_line.Goals as goal
 
 pub numbered-requires : goal.numbered-requires
-numbered-requires c =
-    room_same (refusal_parts c.args.number) c.requires
+unfolding refusal_line_of
+numbered-requires g c = search rules
 
 pub returns : goal.returns
-returns c = refusal_is c.args.number c.numbered.ensures
+unfolding refusal_line_of
+returns g c = search rules

@@ -1,9 +1,6 @@
-use Rattle.std.proofs.Common.{◌-◌}
+use Rattle.instrument.specs.Delivered.{delivered}
 use Rattle.partitions.specs.Progress.{Summing}
 use Rattle.partitions.proofs.state_sum.Given as goal
 
-abbrev pub invariant-loop-c : goal.invariant-loop-c
-invariant-loop-c l = Summing l.t l.c l.sum
-
-abbrev pub decreases-loop-c : goal.decreases-loop-c
-decreases-loop-c l = l.t.components - l.c
+abbrev pub invariant-loop-states : goal.invariant-loop-states
+invariant-loop-states l = Summing (delivered l.fn.t) l.states-index l.sum

@@ -1,73 +1,52 @@
-use Rattle.std.proofs.Common.{◌∙◌, arith, ◌≤◌}
-use Rattle.instrument.specs.declared.Instrument.{Instrument}
-use Rattle.instrument.specs.Outline.{whole}
+use Rattle.std.proofs.Common.{ap, ◌∙◌, List, [], length, get_or, arith, rules, ℕ, ◌+◌, ◌-◌, ◌≤◌}
+use lib.ListN.{length-take, length-drop}
+use borrow.Rule.Slice.PartMut.{put_mid}
+use Rattle.meaning.proofs.Basic.Entries.{list_length}
+use Rattle.loops.proofs.Parts.{part_copied}
+use Rattle.instrument.specs.Delivered.{delivered}
 use Rattle.instrument.specs.Roots.{listed_roots}
-use Rattle.instrument.proofs.Bounds.{count_bounds, states_bounds}
-use Rattle.partitions.proofs.Entries.{writing_start, writing_more, writing_room, writing_end, names_written}
+use Rattle.instrument.proofs.Bounds.{states_bounds}
+use Rattle.partitions.specs.Progress.{names_in}
+use Rattle.partitions.proofs.Entries.{writing_start, writing_more, writing_room, writing_end, names_taken, names_written}
 use Rattle.partitions.proofs.write_classes.Goals as goal
-
-pub all_classes-names-requires : goal.all_classes-names-requires
-all_classes-names-requires c = let p = c.requires in (p.0, p.1)
 
 pub loop-c-init : goal.loop-c-init
 loop-c-init c = writing_start _ _ _ _
 
-pub offset_bounds-t-c : goal.offset_bounds-t-c
-offset_bounds-t-c c =
-    -- the instrument of the outline and the lent sets
-    let own : Instrument = whole c.args.t c.args.nexts.now in
-    let few : c.args.t.components ≤ 4 = (count_bounds own c.requires.0.0 c.requires.0.1).1 in
-    omega (arith, few)
+pub slice_bounds-copy_from_slice-end : goal.slice_bounds-copy_from_slice-end
+slice_bounds-copy_from_slice-end c =
+    let room : c.loop-c.place + get_or c.args.t.outline.now.states c.loop-c.c 0 ≤ length c.loop-c.out =
+    writing_room _ _ _ _ c.loop-c.c c.loop-c.place _ c.loop-c-test.true c.requires.1 c.loop-c.invariant in
+    search rules
 
-pub bounds-t-c : goal.bounds-t-c
-bounds-t-c c =
-    -- the instrument of the outline and the lent sets
-    let own : Instrument = whole c.args.t c.args.nexts.now in
-    let few : c.args.t.components ≤ 4 = (count_bounds own c.requires.0.0 c.requires.0.1).1 in
-    omega (arith, few)
-
-pub offset_bounds-names-c : goal.offset_bounds-names-c
-offset_bounds-names-c c =
-    -- the instrument of the outline and the lent sets
-    let own : Instrument = whole c.args.t c.args.nexts.now in
-    let few : c.args.t.components ≤ 4 = (count_bounds own c.requires.0.0 c.requires.0.1).1 in
-    omega (arith, few)
-
-pub bounds-names-c : goal.bounds-names-c
-bounds-names-c c =
-    -- the instrument of the outline and the lent sets
-    let own : Instrument = whole c.args.t c.args.nexts.now in
-    let few : c.args.t.components ≤ 4 = (count_bounds own c.requires.0.0 c.requires.0.1).1 in
-    omega (arith, few)
-
-pub write_names-requires : goal.write_names-requires
-write_names-requires c =
-    -- the instrument of the outline and the lent sets
-    let own : Instrument = whole c.args.t c.args.nexts.now in (
-      (states_bounds own c.requires.0.0 c.requires.0.1 c.loop-c.c c.loop-c-test.true).1,
-      writing_room _ _ _ _ c.loop-c.c c.loop-c.place _ c.loop-c-test.true c.requires.2 c.loop-c.invariant,
-    )
+pub shared_ref_as_front-copy_from_slice : goal.shared_ref_as_front-copy_from_slice
+shared_ref_as_front-copy_from_slice c =
+    (states_bounds (delivered c.args.t) c.args.t.described.0 c.args.t.described.1 c.loop-c.c c.loop-c-test.true).1
 
 pub overflow_add-place : goal.overflow_add-place
 overflow_add-place c =
     omega (
       arith,
       writing_room _ _ _ _ c.loop-c.c c.loop-c.place _
-          c.loop-c-test.true c.requires.2 c.loop-c.invariant,
+          c.loop-c-test.true c.requires.1 c.loop-c.invariant,
     )
 
 pub loop-c-preserved : goal.loop-c-preserved
 loop-c-preserved c =
-    writing_more _ _ _ _ c.loop-c.c c.loop-c.place _ _ c.loop-c-test.true
-    c.write_names.ensures c.loop-c.invariant
-
-pub shape_of-out : goal.shape_of-out
-shape_of-out c = c.loop-c.invariant.written.long
+    let states : ℕ = get_or c.args.t.outline.now.states c.loop-c.c 0 in
+    let row : List ℕ = get_or c.all_classes-names.result c.loop-c.c [] in
+    let from = c.loop-c.place in
+    let room : from + states ≤ length c.loop-c.out =
+    writing_room _ _ _ _ c.loop-c.c from _ c.loop-c-test.true c.requires.1 c.loop-c.invariant in
+    writing_more _ _ _ _ c.loop-c.c from _ _ c.loop-c-test.true
+    (ap (put_mid from (from + states - from) c.loop-c.out)
+    (c.copy_from_slice.ensures.after
+    ∙ names_taken row states (omega (arith, ap length c.copy_from_slice.ensures.after, c.copy_from_slice.ensures.len, length-take {A = ℕ}, length-drop {A = ℕ})))
+    ∙ part_copied from (from + states - from) c.loop-c.out (names_in row states) (omega (arith, list_length states (λ x. get_or row x 0))) (omega arith))
+    c.loop-c.invariant
 
 pub returns : goal.returns
 returns c =
-    -- the instrument of the outline and the lent sets
-    let own : Instrument = whole c.args.t c.args.nexts.now in
     λ k d.
     writing_end _ _ _ _ c.loop-c.c c.loop-c.place _ (omega arith) c.loop-c.invariant
-    ∙ names_written own k d (listed_roots c.args.roots) _ (c.all_classes-names.ensures k d) _ c.requires.2
+    ∙ names_written (delivered c.args.t) k d (listed_roots c.args.roots) _ (c.all_classes-names.ensures k d) _ c.requires.1

@@ -1,36 +1,40 @@
-use Rattle.std.proofs.Common.{sym, ap, subst, arith}
-use Rattle.meaning.specs.File.Parser.{on}
-use Rattle.meaning.specs.File.Stretches.{start_of, end_of}
-use Rattle.parsing.specs.declared.Outcome.TheVariants.{Accepted}
-use Rattle.parsing.proofs.Steps.{refused_was, accepted_was}
+use Rattle.std.proofs.Common.{ap, ◌∙◌}
+use Rattle.std.proofs.lemmas.Result.{err_from_is_err_and}
+use Rattle.instrument.specs.Layout.{layout}
+use Rattle.parsing.proofs.Parsers.{was, was_fault}
 use Rattle.tables.specs.Stages.{add_component, read_first}
-use Rattle.tables.proofs.Lent.{component_goes}
-use Rattle.reader.specs.Outcomes.{Tells}
-use Rattle.reader.proofs.Places.{locates_refused, stretch_fault, stretch_found}
+use Rattle.tables.specs.Growth.{add_table}
+use Rattle.tables.proofs.Growth.{add_table_lem}
+use Rattle.reader.proofs.Places.{locates_fault, locates_found, first_fault, stretch_fault, stretch_found}
 use Rattle.reader.proofs.stretch.Goals as goal
 
-pub component-all-requires : goal.component-all-requires
-component-all-requires c =
-    let f = c.first-before.ensures.fits in
-    (omega (arith, f.few_components, c.requires), f.few_signals)
+pub returns-in_err-before : goal.returns-in_err-before
+returns-in_err-before c =
+    let p = err_from_is_err_and c.from_residual.result c.from_residual.ensures.1 in
+    let e = was_fault layout (read_first c.args.c c.args.file.now 0) _ c.in_err-before.ensures.answer in
+    rw (p.1, p.2) (locates_fault _ _ (first_fault c.args.file.now c.args.c _ e))
 
-pub returns-in-Refused : goal.returns-in-Refused
-returns-in-Refused c =
-    let component' = c.component-all in
-    let first' = c.first-before in
+pub returns-in_err-end : goal.returns-in_err-end
+returns-in_err-end c =
     let file = c.args.file.now in
-    let g = read_first c.args.c file 0 in
+    let start = c.in_ok-before.start in
+    let p = err_from_is_err_and c.from_residual-in_err-end.result c.from_residual-in_err-end.ensures.1 in
+    -- the components before it
+    let w = was layout (read_first c.args.c file 0) _ _ c.in_ok-before.ensures.answer in
     let e =
-    refused_was component'.result _ (on g (λ k at. add_component k file at)) c.in-Refused.is ((component_goes file first'.result component'.result component'.ensures).on_from g first'.ensures.holds.told) in
-    locates_refused _ _ _ c.nowhere.ensures (stretch_fault file c.args.c first'.result first'.ensures.holds.told _ e)
+    c.in_err-end.ensures.answer ∙ ap (λ f. add_table c.in_ok-before.before f start.at) c.in_ok-before.ensures.same_file
+    ∙ ap (λ t. add_table t file start.at) w.same ∙ add_table_lem file w.value start.at in
+    rw (p.1, p.2)
+    (locates_fault _ _ (stretch_fault file c.args.c w.is _ (was_fault layout (add_component w.value file start.at) _ e)))
 
-pub returns-in-Accepted : goal.returns-in-Accepted
-returns-in-Accepted c =
-    let component' = c.component-all in
-    let first' = c.first-before in
+pub returns : goal.returns
+returns c =
     let file = c.args.file.now in
-    let g = read_first c.args.c file 0 in
-    let w =
-    accepted_was component'.result (on g (λ k at. add_component k file at)) c.in-Accepted.is ((component_goes file first'.result component'.result component'.ensures).on_from g first'.ensures.holds.told) in
-    let e = stretch_found file c.args.c first'.result first'.ensures.holds.told _ _ w.is in
-    record { told = subst (Tells Accepted) (sym e) tt; start_is = sym (ap start_of e); end_is = sym (ap end_of e) }
+    let start = c.in_ok-before.start in
+    -- the components before it
+    let w = was layout (read_first c.args.c file 0) _ _ c.in_ok-before.ensures.answer in
+    let e =
+    c.in_ok-end.ensures.answer ∙ ap (λ f. add_table c.in_ok-before.before f start.at) c.in_ok-before.ensures.same_file
+    ∙ ap (λ t. add_table t file start.at) w.same ∙ add_table_lem file w.value start.at in
+    let v = was layout (add_component w.value file start.at) _ _ e in
+    locates_found _ _ _ (stretch_found file c.args.c w.is v.value _ v.is)

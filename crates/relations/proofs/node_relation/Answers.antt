@@ -1,5 +1,6 @@
 use Rattle.std.proofs.Common.{arith, refl, sym, ap, ap₂, ◌∙◌}
 use Rattle.instrument.proofs.Nodes.{unknown_has}
+use Rattle.instrument.specs.Table.{table_of}
 use Rattle.mark_rules.specs.declared.Mark.{Mark}
 use Rattle.classes.specs.Related.{related_ex, related_fixed}
 use Rattle.relations.specs.Relations.{Sorted}
@@ -20,20 +21,18 @@ returns-in-3 c = rw c.in-3.is (λ over h. c.rel_both.ensures)
 pub returns-in-4 : goal.returns-in-4
 returns-in-4 c =
     rw c.in-4.is (λ over h.
-    c.ex_relation.ensures
-    ∙ ap (λ (m : Mark). related_ex c.args.states c.args.inputs c.args.succ.now c.args.compared.now c.args.a m.pass m.fail c.args.under.fail) h)
+    c.rel_ex.ensures ∙ ap (λ (m : Mark). related_ex (table_of c.args.component.table) c.args.compared.now c.args.a.now m c.args.under.fail) h)
 
 pub returns-in-5 : goal.returns-in-5
 returns-in-5 c =
     rw c.in-5.is (λ over h.
-    c.fixed_relation.ensures
-    ∙ ap (λ (m : Mark). related_fixed c.args.states c.args.inputs c.args.succ.now c.args.compared.now c.args.a m.pass m.fail) h)
+    c.rel_fixed.ensures ∙ ap (λ (m : Mark). related_fixed (table_of c.args.component.table) c.args.compared.now c.args.a.now m) h)
 
 pub returns-in-6 : goal.returns-in-6
 returns-in-6 c =
     rw c.in-6.is (λ over h.
-    c.fixed_relation-in-6.ensures
-    ∙ ap₂ (λ (m : Mark) r. related_fixed c.args.states c.args.inputs c.args.succ.now c.args.compared.now r m.pass m.fail) h c.rel_both-both.ensures)
+    c.rel_fixed-in-6.ensures
+    ∙ ap₂ (λ (m : Mark) r. related_fixed (table_of c.args.component.table) c.args.compared.now r m) h c.rel_both-both.ensures)
 
 pub returns-in-7-to-4294967295 : goal.returns-in-7-to-4294967295
 returns-in-7-to-4294967295 c =

@@ -1,30 +1,34 @@
-use Rattle.std.proofs.Common.{arith, ◌∙◌, ap, ◌^◌, ◌≤◌}
+use Rattle.std.proofs.Common.{arith, ap, length, length-append, rules, ◌^◌, ◌≤◌}
 use Rattle.meaning.specs.File.Grammar.{limits, most_states}
 use Rattle.instrument.specs.Outline.{whole}
-use Rattle.text.specs.Texts.{text_of}
-use Rattle.text.proofs.Texts.{put_more, put_text, put_length}
-use Rattle.listing_lines.specs.Lines.{judgement_from}
+use Rattle.answers.specs.Listing.{verdict_line}
+use Rattle.judgement.specs.Judged.{judgement_of}
+use Rattle.listing_lines.specs.Lines.{class_lines}
 use Rattle.listing_lines.proofs.Lengths.{size_line_short, verdict_line_short}
 use Rattle.report.proofs.Sizes.{merged_few, full_few}
 use Rattle.report.proofs.Listings.{described_few, described_short, listing_same}
 use Rattle.report.proofs.listing_text.Goals as goal
 
-pub class_lines-named-requires : goal.class_lines-named-requires
-class_lines-named-requires c =
+pub verdict_line-requires : goal.verdict_line-requires
+verdict_line-requires c = omega (arith, ap length c.new-text.ensures, verdict_line_short (judgement_of c.args.judgement))
+
+pub class_lines-requires : goal.class_lines-requires
+class_lines-requires c =
     let (nexts, k, h) = c.requires in
-    let few = described_few (whole c.args.t nexts) k h.describes in record {
-      components_le_components = (few.0, few.1);
-      room = record {
-        fits =
-            omega (
-              arith,
-              c.verdict_line-judged.ensures.after,
-              put_length c.verdict_line-judged.ensures,
-              verdict_line_short (judgement_from c.args.holds c.args.by_marks),
-              described_short (whole c.args.t nexts) k h.describes c.args.names h.named,
-            );
-      };
-    }
+    let t = whole c.args.t nexts in (
+      omega arith,
+      (
+        described_few t k h.describes,
+        omega (
+          arith,
+          ap length c.new-text.ensures,
+          ap length c.verdict_line.ensures,
+          length-append c.new-text.result.items (verdict_line (judgement_of c.args.judgement)),
+          verdict_line_short (judgement_of c.args.judgement),
+          described_short t k h.describes c.args.names h.named,
+        ),
+      ),
+    )
 
 pub overflow_cast-merged : goal.overflow_cast-merged
 overflow_cast-merged c =
@@ -38,26 +42,22 @@ overflow_cast-full c =
     (rw h.merged_is (merged_few k h.describes.promised), rw h.full_is (full_few k h.describes.promised)) in
     omega (arith, few)
 
-pub size_line-count-requires : goal.size_line-count-requires
-size_line-count-requires c =
-    let l = c.class_lines-named.ensures in
+pub size_line-requires : goal.size_line-requires
+size_line-requires c =
     let (nexts, k, h) = c.requires in
-    record {
-      fits =
-          omega (
-            arith,
-            c.verdict_line-judged.ensures.after,
-            put_length c.verdict_line-judged.ensures,
-            verdict_line_short (judgement_from c.args.holds c.args.by_marks),
-            l.after,
-            put_length l,
-            described_short (whole c.args.t nexts) k h.describes c.args.names h.named,
-            size_line_short c.args.merged c.args.full,
-          );
-    }
+    let t = whole c.args.t nexts in
+    omega (
+      arith,
+      ap length c.new-text.ensures,
+      ap length c.verdict_line.ensures,
+      length-append c.new-text.result.items (verdict_line (judgement_of c.args.judgement)),
+      verdict_line_short (judgement_of c.args.judgement),
+      ap length c.class_lines.ensures,
+      length-append c.verdict_line.new.out.items (class_lines c.args.t.components c.args.t.states c.args.names),
+      described_short t k h.describes c.args.names h.named,
+      size_line_short c.args.merged c.args.full,
+    )
 
 pub returns : goal.returns
-returns c =
-    λ nexts k h.
-    put_text (put_more c.verdict_line-judged.ensures (put_more c.class_lines-named.ensures c.size_line-count.ensures))
-    ∙ ap text_of (listing_same (whole c.args.t nexts) c.args.names _ _ k h (judgement_from c.args.holds c.args.by_marks))
+returns c = λ nexts k h.
+    search (rules, listing_same (whole c.args.t nexts) c.args.names c.args.merged c.args.full k h (judgement_of c.args.judgement))

@@ -1,7 +1,6 @@
 use Rattle.std.proofs.Common.{ap, ◌∙◌}
 use Rattle.meaning.specs.File.Grammar.{instrument_of}
-use Rattle.instrument.specs.declared.Instrument.{Instrument}
-use Rattle.instrument.specs.Outline.{whole}
+use Rattle.instrument.specs.Delivered.{delivered}
 use Rattle.instrument.specs.Roots.{listed_roots}
 use Rattle.instrument.proofs.LastRoot.{last_good, last_listed, last_node}
 use Rattle.meaning.specs.Roots.{roots_class_names}
@@ -11,21 +10,15 @@ use Rattle.root_classes.proofs.write_root_classes.Goals as goal
 
 pub overflow_sub-t : goal.overflow_sub-t
 overflow_sub-t c =
-    -- the instrument
-    let own : Instrument = whole c.args.t c.args.nexts.now in
-    last_node own c.requires.0.0 c.requires.0.1
+    last_node (delivered c.args.t) c.args.t.described.0 c.args.t.described.1
 
 pub write_classes-requires : goal.write_classes-requires
 write_classes-requires c =
-    -- the instrument
-    let own : Instrument = whole c.args.t c.args.nexts.now in
-    (c.requires.0, rw c.one-alone.ensures (last_good own c.requires.0.0 c.requires.0.1), c.requires.1)
+    (rw c.one-alone.ensures (last_good (delivered c.args.t) c.args.t.described.0 c.args.t.described.1), c.requires)
 
 pub returns : goal.returns
 returns c =
-    -- the instrument
-    let own : Instrument = whole c.args.t c.args.nexts.now in
     λ k d.
     c.write_classes.ensures k d
     ∙ ap (λ ws. lent_after (entries ws) c.args.out.now)
-    (ap (roots_class_names (instrument_of k)) (ap listed_roots c.one-alone.ensures ∙ last_listed own k d) ∙ root_entries (instrument_of k))
+    (ap (roots_class_names (instrument_of k)) (ap listed_roots c.one-alone.ensures ∙ last_listed (delivered c.args.t) k d) ∙ root_entries (instrument_of k))

@@ -10,38 +10,33 @@ root_set-set-requires c =
     good_below c.requires.0 (omega (arith, l.long, l.room))
 
 pub loop-k-init : goal.loop-k-init
-loop-k-init c = (omega arith, c.root_set-set.type_inv, λ ns e rs b z. rw z (root_start _ _ ns e rs b))
-
-pub overflow_cast-node : goal.overflow_cast-node
-overflow_cast-node c = let l = c.requires.1.1 in omega (arith, c.loop-k.invariant.0, l.long, l.room)
+loop-k-init c = (c.root_set-set.type_inv, λ ns e rs b z. rw z (root_start _ _ ns e rs b))
 
 pub offset_bounds-nodes-k : goal.offset_bounds-nodes-k
-offset_bounds-nodes-k c = let l = c.requires.1.1 in omega (arith, c.loop-k.invariant.0, l.long, l.room)
+offset_bounds-nodes-k c = let l = c.requires.1.1 in omega (arith, l.long, l.room)
 
 pub bounds-nodes-k : goal.bounds-nodes-k
-bounds-nodes-k c = let l = c.requires.1.1 in omega (arith, c.loop-k-test.true, c.loop-k.invariant.0, l.long, l.room)
+bounds-nodes-k c = let l = c.requires.1.1 in omega (arith, c.loop-k-test.true, l.long, l.room)
 
 pub member-requires : goal.member-requires
-member-requires c = let l = c.requires.1.1 in omega (arith, c.loop-k-test.true, c.loop-k.invariant.0, l.long, l.room)
+member-requires c = let l = c.requires.1.1 in omega (arith, c.loop-k-test.true, l.long, l.room)
 
 pub with_operands-set-requires : goal.with_operands-set-requires
 with_operands-set-requires c =
     let (ns, listed) = c.requires.1 in
-    operands_listed _ _ ns listed (c.loop-k.k - 1) (omega (arith, c.loop-k-test.true, c.loop-k.invariant.0))
+    operands_listed _ _ ns listed (c.loop-k.k - 1) (omega (arith, c.loop-k-test.true))
 
 pub loop-k-preserved-then-member : goal.loop-k-preserved-then-member
 loop-k-preserved-then-member c = (
-  omega (arith, c.loop-k.invariant.0),
   c.with_operands-set.type_inv,
-  λ ns e rs b z. root_in _ _ ns e rs b c.loop-k.k c.loop-k.set (omega (arith, c.loop-k-test.true)) (c.loop-k.invariant.2 ns e rs b z) _
+  λ ns e rs b z. root_in _ _ ns e rs b c.loop-k.k c.loop-k.set (omega (arith, c.loop-k-test.true)) (c.loop-k.invariant.1 ns e rs b z) _
       c.with_operands-set.result refl c.with_operands-set.ensures (sym (sym c.member.ensures ∙ c.if-member.true)),
 )
 
 pub loop-k-preserved : goal.loop-k-preserved
 loop-k-preserved c = (
-  omega (arith, c.loop-k.invariant.0),
-  c.loop-k.invariant.1,
-  λ ns e rs b z. root_out _ _ ns e rs b c.loop-k.k c.loop-k.set (omega (arith, c.loop-k-test.true)) (c.loop-k.invariant.2 ns e rs b z)
+  c.loop-k.invariant.0,
+  λ ns e rs b z. root_out _ _ ns e rs b c.loop-k.k c.loop-k.set (omega (arith, c.loop-k-test.true)) (c.loop-k.invariant.1 ns e rs b z)
       (sym (sym c.member.ensures ∙ c.if-member.false)),
 )
 
@@ -49,5 +44,5 @@ pub returns : goal.returns
 returns c =
     λ ns e.
     let b = good_each _ _ c.requires.0 in
-    root_end _ _ ns e _ b c.loop-k.k c.loop-k.set (omega (arith, c.loop-k-test.false)) c.loop-k.invariant.1
-    (c.loop-k.invariant.2 ns e _ b c.root_set-set.ensures)
+    root_end _ _ ns e _ b c.loop-k.k c.loop-k.set (omega (arith, c.loop-k-test.false)) c.loop-k.invariant.0
+    (c.loop-k.invariant.1 ns e _ b c.root_set-set.ensures)

@@ -1,4 +1,4 @@
-use Rattle.std.proofs.Common.{◌≡◌, ℕ, ◌^◌, ◌≤◌, ◌<◌, List}
+use Rattle.std.proofs.Common.{◌≡◌, ℕ, ◌^◌, ◌<◌, List}
 use Rattle.meaning.specs.Atoms.{Atom}
 use Rattle.meaning.specs.Nodes.{Node}
 use Rattle.meaning.specs.Tests.{All}
@@ -9,8 +9,5 @@ use Rattle.subformulas.proofs.under_roots.Given as goal
 
 abbrev pub invariant-loop-k : goal.invariant-loop-k
 invariant-loop-k l =
-    (l.k ≤ l.count) × (l.set < 2 ^ 32)
+    (l.set < 2 ^ 32)
     × ((ns : List (Node Atom)) → Listing l.nodes l.count ns → (roots : List ℕ) → All (λ r. r < l.count) roots → l.initial.set ≡ with_all 0 roots → Reaching ns roots l.k l.set)
-
-abbrev pub decreases-loop-k : goal.decreases-loop-k
-decreases-loop-k l = l.k

@@ -1,9 +1,9 @@
-use Rattle.std.proofs.Common.{arith}
-use Rattle.text.proofs.Texts.{all_places, all_room}
+use Rattle.std.proofs.Common.{rules}
+use Rattle.text.proofs.Texts.{decimal_std}
 use Rattle.text.proofs.decimal.Goals as goal
 
-pub digits-requires : goal.digits-requires
-digits-requires c = (omega arith, all_room c.args.v c.requires)
+pub word-requires : goal.word-requires
+word-requires g c = search (rules, decimal_std c.args.v (search rules))
 
 pub returns : goal.returns
-returns c = all_places _ c.digits.ensures
+returns g c = search (rules, decimal_std c.args.v (search rules))

@@ -1,22 +1,31 @@
 use Rattle.std.proofs.Common.{sym, ◌∙◌, [], ◌∷◌}
+use Rattle.std.proofs.lemmas.Result.{err_from_is_err_and}
 use Rattle.answers.specs.Outcomes.{lookup_of, lookup_reply}
 use Rattle.value_queries.proofs.Telling.{reply_refused, reply_found, denied_given, lookup_holds}
 use Rattle.value_queries.proofs.lookup.Goals as goal
 
-pub look_up_asked-requires : goal.look_up_asked-requires
-look_up_asked-requires c =
-    let h = c.read-reading.ensures.found c.in-Accepted.is in
-    (h.contents, h.describes)
+pub invariant_of-t : goal.invariant_of-t
+invariant_of-t c = let h = c.in_ok-outline.ensures.found in record { described = (h.contents, h.describes) }
 
-pub returns-in-Refused : goal.returns-in-Refused
+pub returns-in_err-outline-clause-answer : goal.returns-in_err-outline-clause-answer
 unfolding lookup_reply
-returns-in-Refused c =
-    let e = reply_refused (λ I. lookup_of I (c.args.s0 ∷ c.args.s1 ∷ c.args.s2 ∷ c.args.s3 ∷ [])) c.args.file.now c.read-reading.result.outcome c.in-Refused.cause c.in-Refused.is c.read-reading.ensures.tells in
-    record { answer = e; meaning = λ b z. absurd (denied_given z) }
+returns-in_err-outline-clause-answer c =
+    let p = err_from_is_err_and c.from_residual.result c.from_residual.ensures.1 in
+    rw (p.1, p.2) (reply_refused (λ I. lookup_of I (c.args.s0 ∷ c.args.s1 ∷ c.args.s2 ∷ c.args.s3 ∷ [])) c.args.file.now _ c.in_err-outline.ensures.tells)
 
-pub returns-in-Accepted : goal.returns-in-Accepted
+pub returns-in_err-outline-clause-meaning : goal.returns-in_err-outline-clause-meaning
+returns-in_err-outline-clause-meaning c =
+    let p = err_from_is_err_and c.from_residual.result c.from_residual.ensures.1 in
+    rw (p.1, p.2) (λ b z. absurd (denied_given z))
+
+pub returns-clause-answer : goal.returns-clause-answer
 unfolding lookup_reply
-returns-in-Accepted c =
-    let h = c.read-reading.ensures.found c.in-Accepted.is in
-    let e = c.look_up_asked.ensures h.contents h.describes in
-    record { answer = reply_found (λ I. lookup_of I (c.args.s0 ∷ c.args.s1 ∷ c.args.s2 ∷ c.args.s3 ∷ [])) h e; meaning = λ b z. lookup_holds h (c.args.s0 ∷ c.args.s1 ∷ c.args.s2 ∷ c.args.s3 ∷ []) b (sym e ∙ z) }
+returns-clause-answer c =
+    let h = c.in_ok-outline.ensures.found in
+    reply_found (λ I. lookup_of I (c.args.s0 ∷ c.args.s1 ∷ c.args.s2 ∷ c.args.s3 ∷ [])) h (c.look_up_asked.ensures h.contents h.describes)
+
+pub returns-clause-meaning : goal.returns-clause-meaning
+returns-clause-meaning c =
+    λ b z.
+    let h = c.in_ok-outline.ensures.found in
+    lookup_holds h (c.args.s0 ∷ c.args.s1 ∷ c.args.s2 ∷ c.args.s3 ∷ []) b (sym (c.look_up_asked.ensures h.contents h.describes) ∙ z)

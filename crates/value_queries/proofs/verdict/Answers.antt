@@ -1,22 +1,31 @@
-use Rattle.std.proofs.Common.{sym, ◌∙◌}
+use Rattle.std.proofs.Common.{sym, ap, ◌∙◌}
+use Rattle.std.proofs.lemmas.Result.{err_from_is_err_and}
 use Rattle.answers.specs.Outcomes.{judgement, verdict_of, verdict_reply}
 use Rattle.value_queries.proofs.Telling.{reply_refused, reply_found, denied_given, verdict_holds}
 use Rattle.value_queries.proofs.verdict.Goals as goal
 
-pub judge-requires : goal.judge-requires
-judge-requires c =
-    let h = c.read-reading.ensures.found c.in-Accepted.is in
-    (h.contents, h.describes)
+pub invariant_of-t : goal.invariant_of-t
+invariant_of-t c = let h = c.in_ok-outline.ensures.found in record { described = (h.contents, h.describes) }
 
-pub returns-in-Refused : goal.returns-in-Refused
+pub returns-in_err-outline-clause-answer : goal.returns-in_err-outline-clause-answer
 unfolding verdict_reply
-returns-in-Refused c =
-    let e = reply_refused (λ I. judgement (verdict_of I)) c.args.file.now c.read-reading.result.outcome c.in-Refused.cause c.in-Refused.is c.read-reading.ensures.tells in
-    record { answer = e; meaning = λ b z. absurd (denied_given z) }
+returns-in_err-outline-clause-answer c =
+    let p = err_from_is_err_and c.from_residual.result c.from_residual.ensures.1 in
+    rw (p.1, p.2) (reply_refused (λ I. judgement (verdict_of I)) c.args.file.now _ c.in_err-outline.ensures.tells)
 
-pub returns-in-Accepted : goal.returns-in-Accepted
+pub returns-in_err-outline-clause-meaning : goal.returns-in_err-outline-clause-meaning
+returns-in_err-outline-clause-meaning c =
+    let p = err_from_is_err_and c.from_residual.result c.from_residual.ensures.1 in
+    rw (p.1, p.2) (λ j z. absurd (denied_given z))
+
+pub returns-clause-answer : goal.returns-clause-answer
 unfolding verdict_reply
-returns-in-Accepted c =
-    let h = c.read-reading.ensures.found c.in-Accepted.is in
-    let e = c.judge.ensures h.contents h.describes in
-    record { answer = reply_found (λ I. judgement (verdict_of I)) h e; meaning = λ b z. verdict_holds h b (sym e ∙ z) }
+returns-clause-answer c =
+    let h = c.in_ok-outline.ensures.found in
+    reply_found (λ I. judgement (verdict_of I)) h (c.judge.ensures h.contents h.describes)
+
+pub returns-clause-meaning : goal.returns-clause-meaning
+returns-clause-meaning c =
+    λ j z.
+    let h = c.in_ok-outline.ensures.found in
+    verdict_holds h j (sym (c.judge.ensures h.contents h.describes) ∙ z)

@@ -4,4 +4,4 @@ use Rattle.words.proofs.member.Goals as goal
 
 pub returns : goal.returns
 unfolding sets.digit
-returns c = refl
+returns g c = rw (c.wide.ensures.same, c.at.ensures) refl

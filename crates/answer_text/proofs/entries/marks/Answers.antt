@@ -1,28 +1,17 @@
-use Rattle.std.proofs.Common.{refl, subst}
-use Rattle.meaning.specs.File.Grammar.{read_file}
-use Rattle.instrument.specs.Outline.{whole}
-use Rattle.reader.specs.Outcomes.{Tells, Found}
-use Rattle.answer_text.proofs.Buffers.{made_same}
+use Rattle.std.proofs.Common.{◌∙◌}
+use Rattle.std.proofs.lemmas.Result.{err_from_is_err_and}
 use Rattle.answer_text.proofs.Readings.{marks_refused, marks_given}
 use Rattle.answer_text.proofs.entries.marks.Goals as goal
 
-pub read-reading-requires : goal.read-reading-requires
-read-reading-requires c = refl
+pub returns-in_err-outline : goal.returns-in_err-outline
+returns-in_err-outline c =
+    let p = err_from_is_err_and c.from_residual.result c.from_residual.ensures.1 in
+    rw (p.1, p.2) (c.requires, marks_refused c.args.file.now _ c.in_err-outline.ensures.tells)
 
-pub instrument_marks-requires : goal.instrument_marks-requires
-instrument_marks-requires c =
-    -- what was read
-    let read : Found c.args.file.now (whole c.read-reading.result.outline c.read-reading.new.nexts) = c.read-reading.ensures.found c.in-Accepted.is in
-    let h = read in (h.contents, h.describes)
+pub invariant_of-t : goal.invariant_of-t
+invariant_of-t c = let h = c.in_ok-outline.ensures.found in record { described = (h.contents, h.describes) }
 
-pub returns-in-Refused : goal.returns-in-Refused
-returns-in-Refused c =
-    made_same (marks_refused c.args.file.now c.in-Refused.cause (subst (λ o. Tells o (read_file c.args.file.now)) c.in-Refused.is c.read-reading.ensures.tells))
-    c.refusal.ensures
-
-pub returns-in-Accepted : goal.returns-in-Accepted
-returns-in-Accepted c =
-    -- what was read
-    let read : Found c.args.file.now (whole c.read-reading.result.outline c.read-reading.new.nexts) = c.read-reading.ensures.found c.in-Accepted.is in
-    let h = read in
-    made_same (marks_given _ h.contents h.end h.read) (c.instrument_marks.ensures h.contents h.describes)
+pub returns : goal.returns
+returns c =
+    let h = c.in_ok-outline.ensures.found in
+    c.instrument_marks.ensures h.contents h.describes ∙ marks_given _ h.contents h.end h.read

@@ -1,33 +1,27 @@
-use Rattle.std.proofs.Common.{length, drop, take, length-take, ◌≡◌, sym, ◌∙◌, arith, ◌-◌, rules}
-use Rattle.answers.specs.Outcomes.{merged_outcome}
+use Rattle.std.proofs.Common.{length, take, length-take, ◌≡◌, ◌∙◌, sym, ap, arith, rules}
+use Rattle.std.proofs.lemmas.Result.{err_from_is_err_and}
 use Rattle.answers.specs.Lines.{words_line}
-use Rattle.answer_text.specs.Settled.{text_bytes}
 use Rattle.lines.proofs.Lengths.{words_short}
 use Rattle.answer_text.proofs.Outcomes.{refused_text, entered}
 use Rattle.answer_text.proofs.Texts.{merged_text, merged_numbered}
-use Rattle.answer_text.proofs.Buffers.{made_same}
 use Rattle.answer_text.proofs.entries.merged.Goals as goal
 
+pub returns-in_err-n : goal.returns-in_err-n
+returns-in_err-n c =
+    let p = err_from_is_err_and c.from_residual.result c.from_residual.ensures.1 in
+    rw (p.1, p.2) (c.requires, refused_text words_line _ _ c.in_err-n.ensures.answer ∙ sym (merged_text c.args.file.now))
+
 pub slice_bounds-words_line-end : goal.slice_bounds-words_line-end
-slice_bounds-words_line-end c =
-    let file = c.args.file.now in
-    (entered (merged_outcome file 4096) (merged_numbered file) c.in-Entries.n c.in-Entries.is c.merged_words.ensures.answer words_line).fits
+slice_bounds-words_line-end c = (entered words_line _ (merged_numbered c.args.file.now) _ c.in_ok-n.ensures.answer).fits
 
 pub words_line-requires : goal.words_line-requires
 words_line-requires c =
     let words = c.merged_words.new.out in
     let long : length words ≡ 4096 = search rules in
-    let room : length c.args.out.now ≡ text_bytes = search rules in
-    record { fits = omega (arith, long, room, words_short (take (c.in-Entries.n - 0) (drop 0 words)), length-take (c.in-Entries.n - 0) (drop 0 words)) }
+    let n = c.in_ok-n.n in
+    omega (arith, ap length c.requires, long, length-take n words, words_short (take n words))
 
-pub returns-in-Refused : goal.returns-in-Refused
-returns-in-Refused c =
-    let file = c.args.file.now in
-    made_same (refused_text (merged_outcome file 4096) c.in-Refused.cause c.in-Refused.is c.merged_words.ensures.answer words_line ∙ sym (merged_text file))
-    c.refusal.ensures
-
-pub returns-in-Entries : goal.returns-in-Entries
-returns-in-Entries c =
-    let file = c.args.file.now in
-    made_same ((entered (merged_outcome file 4096) (merged_numbered file) c.in-Entries.n c.in-Entries.is c.merged_words.ensures.answer words_line).text ∙ sym (merged_text file))
-    c.words_line.ensures
+pub returns : goal.returns
+returns c =
+    let e = entered words_line _ (merged_numbered c.args.file.now) _ c.in_ok-n.ensures.answer in
+    search (rules, e.text ∙ sym (merged_text c.args.file.now), c.requires)

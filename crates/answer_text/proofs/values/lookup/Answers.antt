@@ -1,19 +1,17 @@
-use Rattle.std.proofs.Common.{ap, arith}
+use Rattle.std.proofs.Common.{ap, ◌∙◌}
+use Rattle.std.proofs.lemmas.Result.{err_from_is_err_and}
 use Rattle.answers.specs.Lines.{lookup_line}
 use Rattle.answers.specs.Printed.{printed}
-use Rattle.value_queries.specs.Told.{looked_reply}
-use Rattle.report.specs.Report.{Spelled}
-use Rattle.lines.proofs.Lengths.{lookup_line_short}
-use Rattle.answer_text.proofs.Buffers.{spelled, made_same}
+use Rattle.answer_text.proofs.Outcomes.{put_first}
 use Rattle.answer_text.proofs.values.lookup.Goals as goal
 
-pub put-requires : goal.put-requires
-put-requires c =
-    let line : Spelled c.lookup_text.result (lookup_line (looked_reply c.lookup-answer.result)) = spelled _ _ c.lookup_text.ensures (omega (arith, lookup_line_short (looked_reply c.lookup-answer.result))) in
-    (_, line)
+pub returns-in_err-truth : goal.returns-in_err-truth
+unfolding printed
+returns-in_err-truth c =
+    let p = err_from_is_err_and c.from_residual.result c.from_residual.ensures.1 in
+    rw (p.1, p.2) (c.requires, ap lookup_line c.in_err-truth.ensures.answer)
 
 pub returns : goal.returns
 unfolding printed
 returns c =
-    let line : Spelled c.lookup_text.result (lookup_line (looked_reply c.lookup-answer.result)) = spelled _ _ c.lookup_text.ensures (omega (arith, lookup_line_short (looked_reply c.lookup-answer.result))) in
-    made_same (ap lookup_line c.lookup-answer.ensures.answer) (c.put.ensures _ line)
+    put_first _ c.requires c.word.ensures ∙ c.as_slice.ensures.value ∙ c.truth_line.ensures ∙ ap lookup_line c.in_ok-truth.ensures.answer

@@ -7,9 +7,6 @@ use Rattle.classes.proofs.relation.converse.Goals as goal
 pub loop-x-init : goal.loop-x-init
 loop-x-init c = turning_start _ _
 
-pub intersection-related-requires : goal.intersection-related-requires
-intersection-related-requires c = tt
-
 pub mark-requires : goal.mark-requires
 mark-requires c = c.loop-x.invariant.long
 

@@ -13,4 +13,4 @@ returns c =
       c.member-2.ensures,
       c.pick-failed.ensures,
       c.member.ensures,
-    ) (kept_row _ _ _ _ _ _)
+    ) (kept_row _ _ _ _ _)

@@ -1,41 +1,22 @@
-use Rattle.std.proofs.Common.{◌∙◌, eqb, get_or, arith, ◌^◌, ◌<◌}
-use Rattle.words.proofs.Members.{intersection_lt}
+use Rattle.std.proofs.Common.{◌≡◌, ap, ◌∙◌, Bool, ◌&&◌, ◌||◌, eqb, get_or, rules, ℕ}
+use Rattle.words.specs.Sets.{has, built}
+use Rattle.mark_rules.specs.declared.Mark.{Mark}
 use Rattle.classes.specs.Matching as matching
-use Rattle.classes.specs.Rows.{rows, padded}
-use Rattle.loops.proofs.Written.{filling_start, filling_more, filling_end}
-use Rattle.classes.proofs.Row.{cut_narrow, ruled_row}
+use Rattle.classes.specs.Related as related
+use Rattle.classes.specs.Rows.{rel, rows}
+use Rattle.classes.proofs.Rows.{rel_rows_lem}
+use Rattle.classes.proofs.Filled.{filled_is}
+use Rattle.classes.proofs.Row.{ruled_both}
 use Rattle.classes.proofs.rule.ruled.Goals as goal
 
-pub loop-x-init : goal.loop-x-init
-loop-x-init c = filling_start
-
-pub intersection-own-requires : goal.intersection-own-requires
-intersection-own-requires c = tt
-
-pub intersection-matched-requires : goal.intersection-matched-requires
-intersection-matched-requires c = tt
-
-pub intersection-among-requires : goal.intersection-among-requires
-intersection-among-requires c = tt
-
-pub same_outputs-alike-requires : goal.same_outputs-alike-requires
-same_outputs-alike-requires c =
-    -- the states among which the outputs are compared
-    let narrow : c.intersection-among.result < 2 ^ c.args.states = rw (c.intersection-among.ensures, c.intersection-own.ensures, c.below-all.ensures)
-    (intersection_lt _ _ _ (cut_narrow _ _)) in
-    let p = c.requires in
-    (p.0, p.1, c.loop-x-test.true, narrow)
-
-pub kept-requires : goal.kept-requires
-kept-requires c = (c.requires.0, c.loop-x-test.true)
-
-pub loop-x-preserved : goal.loop-x-preserved
-loop-x-preserved c =
-    filling_more c.loop-x.invariant c.loop-x-test.true (omega arith)
-    (c.kept.ensures
-    ∙ ruled_row _ _ _ _ _ _ _ (λ y. eqb (get_or c.args.compared.now c.loop-x.x 0) (get_or c.args.compared.now y 0))
-    (c.intersection-own.ensures ∙ rw c.below-all.ensures) (c.same_outputs-alike.ensures ∙ rw (c.intersection-among.ensures, c.intersection-matched.ensures)))
-
 pub returns : goal.returns
-unfolding matching.ruled rows padded
-returns c = filling_end c.loop-x.invariant c.loop-x-test.false
+unfolding matching.ruled related.related_both rows
+returns c = filled_is c.rows.ensures c.requires.0 (λ x w l p.
+    let g : ℕ → Bool = λ y. eqb (get_or c.args.compared.now x 0) (get_or c.args.compared.now y 0) in
+    let m : Mark = c.args.mark in
+    let r : ℕ = get_or c.args.r.now x 0 in
+    let v : ℕ = get_or c.rel_both-matched.result x 0 in
+    let both : ℕ → ℕ → Bool = λ x y. rel c.args.forth.now x y && rel c.args.back.now x y in
+    let e : w ≡ built c.args.states (λ y. has r y && ((has m.pass x && has m.pass y) || ((has m.fail x && has m.fail y) || (g y && has v y)))) = search rules in
+    ruled_both c.args.states r m x g (get_or c.args.forth.now x 0) (get_or c.args.back.now x 0) v
+    (λ y k. ap (λ r. rel r x y) c.rel_both-matched.ensures ∙ rel_rows_lem c.args.states both x y c.requires.0 l k) e)

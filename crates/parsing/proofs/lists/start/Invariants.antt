@@ -1,4 +1,4 @@
-use Rattle.std.proofs.Common.{◌≡◌, List, length, ℕ, ◌+◌, ◌-◌, ◌≤◌}
+use Rattle.std.proofs.Common.{◌≡◌, List, ℕ, length, ◌+◌}
 use lib.Seq.{sets}
 use Rattle.meaning.specs.File.Grammar.{start_state, limits}
 use Rattle.parsing.proofs.Faults.{Reading}
@@ -6,8 +6,5 @@ use Rattle.parsing.proofs.lists.start.Given as goal
 
 abbrev pub invariant-loop-c : goal.invariant-loop-c
 invariant-loop-c l =
-    (l.c ≤ l.n) × (length l.out ≡ length l.initial.out)
-    × Reading (start_state limits l.sizes) (λ c v. c + 1) l.file l.n 0 l.initial.place.at (λ (s : List ℕ). l.out ≡ sets l.initial.out l.base s) l.c l.c l.place.at
-
-abbrev pub decreases-loop-c : goal.decreases-loop-c
-decreases-loop-c l = l.n - l.c
+    Reading (start_state limits l.sizes) (λ c v. c + 1) l.initial.place.file.now (length l.initial.out) 0 l.initial.place.at
+    (λ (s : List ℕ). l.out ≡ sets l.initial.out 0 s) l.c l.c l.place.file.now l.place.at

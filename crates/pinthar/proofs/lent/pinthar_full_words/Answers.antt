@@ -4,5 +4,5 @@ use Rattle.pinthar.proofs.lent.pinthar_full_words.Goals as goal
 pub returns : goal.returns
 returns c =
     let w = c.full_words.ensures in
-    let b = both w.answer w.meaning c.of_written.ensures in
+    let b = both w.answer w.meaning c.of_answer.ensures in
     record { answer = b.0; meaning = b.1 }

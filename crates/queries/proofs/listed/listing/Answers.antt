@@ -1,29 +1,23 @@
-use Rattle.std.proofs.Common.{refl, subst, length}
-use Rattle.meaning.specs.File.Grammar.{read_file}
-use Rattle.reader.specs.Outcomes.{Tells}
+use Rattle.std.proofs.Common.{length}
+use Rattle.std.proofs.lemmas.Result.{err_from_is_err_and}
 use Rattle.answers.specs.Outcomes.{judgement, verdict_of}
 use Rattle.answers.specs.Listing.{listed, listing_outcome}
-use Rattle.entry_queries.proofs.Answering.{file_refused, file_answered}
+use Rattle.entry_queries.proofs.Answering.{refused_answered, file_answered}
 use Rattle.queries.proofs.listed.listing.Goals as goal
 
-pub read-reading-requires : goal.read-reading-requires
-read-reading-requires c = refl
+pub invariant_of-t : goal.invariant_of-t
+invariant_of-t c = let h = c.in_ok-outline.ensures.found in record { described = (h.contents, h.describes) }
 
-pub write_listing-requires : goal.write_listing-requires
-write_listing-requires c =
-    let h = c.read-reading.ensures.found c.in-Accepted.is in
-    (h.contents, h.describes)
-
-pub returns-in-Refused : goal.returns-in-Refused
+pub returns-in_err-outline : goal.returns-in_err-outline
 unfolding listing_outcome
-returns-in-Refused c =
-    record {
-      answer = file_refused (λ I. listed I (length c.args.out.now) (judgement (verdict_of I))) (read_file c.args.file.now) c.in-Refused.cause c.args.out.now
-          (subst (λ o. Tells o (read_file c.args.file.now)) c.in-Refused.is c.read-reading.ensures.tells);
-    }
+returns-in_err-outline c =
+    let p = err_from_is_err_and c.from_residual.result c.from_residual.ensures.1 in
+    let e =
+    refused_answered (λ I. listed I (length c.args.out.now) (judgement (verdict_of I))) c.args.file.now c.args.out.now _ c.in_err-outline.ensures.tells in
+    record { answer = rw (p.1, p.2) e }
 
-pub returns-in-Accepted : goal.returns-in-Accepted
+pub returns : goal.returns
 unfolding listing_outcome
-returns-in-Accepted c =
-    let h = c.read-reading.ensures.found c.in-Accepted.is in
+returns c =
+    let h = c.in_ok-outline.ensures.found in
     record { answer = file_answered (λ I. listed I (length c.args.out.now) (judgement (verdict_of I))) h (c.write_listing.ensures h.contents h.describes) }

@@ -1,8 +1,6 @@
 use Rattle.std.proofs.Common.{ap, ◌∙◌}
-use Rattle.text.specs.Texts.{text_of}
 use Rattle.answers.specs.Listing.{refusal_line_of}
 use Rattle.queries.proofs.listed.refusal_line.Goals as goal
 
 pub returns : goal.returns
-returns c =
-    record { answer = c.refusal_text.ensures ∙ ap (λ n. text_of (refusal_line_of n)) c.number.ensures }
+returns c = record { answer = c.refusal_text.ensures ∙ ap refusal_line_of c.number.ensures }

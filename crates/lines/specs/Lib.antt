@@ -1,2 +1,0 @@
--- what the public contracts say
-pub mod Made
