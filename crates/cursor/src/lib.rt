@@ -77,7 +77,8 @@ impl<'a> Cursor<'a> {
         Cursor { file, at: 0 }
     }
 
-    // The number at this place; most have one group.
+    // The number at this place; most have one group, which is read where it is asked for.
+    #[inline(always)]
     pub fn number(self) -> Read<'a, Number>
         ensures answer { got result ≡ grammar.number grammar.limits self.entry.file.now self.entry.at }
         ensures same_file { InFile self.entry.file.now result }
@@ -95,6 +96,7 @@ impl<'a> Cursor<'a> {
     }
 
     // The number at this place, group by group. The place and the groups left go on together, so that a range would count only one of them.
+    #[inline(never)]
     fn groups(self) -> Read<'a, Number>
         ensures answer { got result ≡ grammar.number grammar.limits self.entry.file.now self.entry.at }
         ensures same_file { InFile self.entry.file.now result }

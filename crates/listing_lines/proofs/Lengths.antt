@@ -41,7 +41,7 @@ join_longer f m (suc n) l =
 
 -- a class name is a state, so of two digits
 pub name_short : (v : ℕ) → v ≤ most_states → length (space ++ decimal v) ≤ 3
-name_short v h = omega (arith, decimal_few 2 v (omega arith) (omega arith) (omega arith))
+name_short v h = omega (arith, decimal_few 2 v (omega arith) (omega arith))
 
 pub names_short : (states : ℕ) (names : ℕ → ℕ) → ((x : ℕ) → x < states → names x ≤ most_states) → length (spaced_names states names) ≤ 3 * states
 names_short states names h = join_short 3 states (λ x. space ++ decimal (names x)) (λ x l. name_short (names x) (h x l))
