@@ -18,7 +18,7 @@ pub loop-c-init : goal.loop-c-init
 loop-c-init c = naming_start _ _ _ _
 
 pub component-component-requires : goal.component-component-requires
-component-component-requires c = c.loop-c-test.true
+component-component-requires c = omega (arith, c.loop-c-test.true)
 
 pub component_classes-requires : goal.component_classes-requires
 component_classes-requires c =
